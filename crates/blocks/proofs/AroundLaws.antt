@@ -1,0 +1,261 @@
+-- Blocks of frames: f and g are in one block of order k when f / 2 ^ k ≡ g / 2 ^ k. All laws go by that.
+use mathlib.Core.Path.{_≡_, refl, ap, _∙_, sym}
+use mathlib.Core.Bool.{Bool, true, false, not}
+use mathlib.Core.Option.{Option, none, some}
+use Prim.Native.Nat.{ℕ, suc, _+_, _*_, _/_, _%_, _^_, _-_, _<_, _≤_, zero-le}
+use native.Mathlib.Nat.{div-add-mod', mod-lt, div-one, pow-suc, mul-assoc, mod-eq-of-lt, one-mul}
+use native.Mathlib.Decide.{decLt, decLe, ℕ-discrete}
+use native.Mathlib.Omega.{arith}
+use lib.Arith.{digits-div}
+use lib.Dec.{eqb, leb, ltb}
+use lib.Pow.{pow-pos, pow-mono, shr-shr, shl-shr, pow-add}
+use borrow.Author.Tests.{leb-true, le-leb, ltb-true, lt-ltb, not-true}
+use Rattle.words.specs.Searches.{allFrom, largest}
+use Rattle.words.proofs.Cases.{by-test, by-dec, true-false, and-true, true-and}
+use Rattle.words.proofs.SearchLaws.{allFrom-at, at-allFrom, largest-is, Largest, greatest, nothing, largest-ext, largest-unique}
+use Rattle.blocks.specs.Blocks.{inBlock}
+use Rattle.blocks.specs.Choice.{without}
+use Rattle.blocks.specs.Around.{startOf, around, freeOrder}
+
+-- sizes
+
+pub double : (k : ℕ) → 2 ^ k + 2 ^ k ≡ 2 ^ (k + 1)
+double k = let s : k + 1 ≡ suc k = omega arith in rw (s, pow-suc) (omega arith)
+
+pub order-size : (k : ℕ) → k ≤ 10 → 2 ^ k ≤ 1024
+order-size k h = pow-mono h
+
+pub pow-less : (m k : ℕ) → m < k → 2 ^ m < 2 ^ k
+pow-less m k h =
+    let a : 2 ^ (m + 1) ≤ 2 ^ k = pow-mono (omega arith) in
+    let d = double m in
+    let p : 0 < 2 ^ m = pow-pos m in
+    omega arith
+
+-- a shift of 1 by an order, in a word of w bits
+pub shift-one : (w k : ℕ) → k ≤ 10 → 10 < w → 1 * 2 ^ k % 2 ^ w ≡ 2 ^ k
+shift-one w k h hw =
+    let m : 2 ^ k < 2 ^ w = pow-less k w (omega arith) in
+    let e : 1 * 2 ^ k ≡ 2 ^ k = one-mul (2 ^ k) in
+    rw e (mod-eq-of-lt m)
+
+-- starts
+
+pub mod-start : (k f : ℕ) → f % 2 ^ k ≡ 0 → startOf k f ≡ f
+unfolding startOf
+mod-start k f e = let a = div-add-mod' f (2 ^ k) in omega arith
+
+pub start-mod : (k f : ℕ) → startOf k f ≡ f → f % 2 ^ k ≡ 0
+unfolding startOf
+start-mod k f e = let a = div-add-mod' f (2 ^ k) in omega arith
+
+-- a start of a block is a start of its first part
+pub finer : (i j s : ℕ) → i ≤ j → startOf j s ≡ s → startOf i s ≡ s
+unfolding startOf
+finer i j s h e =
+    let a : ℕ = s / 2 ^ j * 2 ^ (j - i) in
+    let sum : (j - i) + i ≡ j = omega arith in
+    let p : 2 ^ j ≡ 2 ^ (j - i) * 2 ^ i = rw sum at (pow-add 2 (j - i) i) in
+    let m : a * 2 ^ i ≡ s = mul-assoc (s / 2 ^ j) (2 ^ (j - i)) (2 ^ i) ∙ ap (λ (x : ℕ). s / 2 ^ j * x) (sym p) ∙ e in
+    let d : a * 2 ^ i / 2 ^ i ≡ a = shl-shr a i in
+    ap (λ (x : ℕ). x / 2 ^ i * 2 ^ i) (sym m) ∙ ap (λ (x : ℕ). x * 2 ^ i) d ∙ m
+
+-- a start of order k, one block on
+pub start-next : (k s : ℕ) → startOf k s ≡ s → startOf k (s + 2 ^ k) ≡ s + 2 ^ k
+unfolding startOf
+start-next k s e =
+    let m : (s / 2 ^ k + 1) * 2 ^ k ≡ s + 2 ^ k = omega (arith, e) in
+    let d : (s / 2 ^ k + 1) * 2 ^ k / 2 ^ k ≡ s / 2 ^ k + 1 = shl-shr (s / 2 ^ k + 1) k in
+    ap (λ (x : ℕ). x / 2 ^ k * 2 ^ k) (sym m) ∙ ap (λ (x : ℕ). x * 2 ^ k) d ∙ m
+
+-- frames of one block
+
+-- in one block of order k, so in one of any larger order
+pub coarser : (f g k m : ℕ) → k ≤ m → f / 2 ^ k ≡ g / 2 ^ k → f / 2 ^ m ≡ g / 2 ^ m
+coarser f g k m h e =
+    let s : k + (m - k) ≡ m = omega arith in
+    let pf : f / 2 ^ k / 2 ^ (m - k) ≡ f / 2 ^ m = rw s at (shr-shr f k (m - k)) in
+    let pg : g / 2 ^ k / 2 ^ (m - k) ≡ g / 2 ^ m = rw s at (shr-shr g k (m - k)) in
+    cc
+
+-- g is in the block of order k around f when it is between its ends
+pub in-block : (k f g : ℕ) → g / 2 ^ k ≡ f / 2 ^ k → (startOf k f ≤ g) × (g < startOf k f + 2 ^ k)
+unfolding startOf
+in-block k f g e =
+    let a : g / 2 ^ k * 2 ^ k + g % 2 ^ k ≡ g = div-add-mod' g (2 ^ k) in
+    let b : g % 2 ^ k < 2 ^ k = mod-lt g (pow-pos k) in
+    let c : g / 2 ^ k * 2 ^ k ≡ f / 2 ^ k * 2 ^ k = ap (λ (x : ℕ). x * 2 ^ k) e in
+    omega arith
+
+pub block-in : (k f g : ℕ) → startOf k f ≤ g → g < startOf k f + 2 ^ k → g / 2 ^ k ≡ f / 2 ^ k
+unfolding startOf
+block-in k f g lo hi =
+    let e : f / 2 ^ k * 2 ^ k + (g - f / 2 ^ k * 2 ^ k) ≡ g = omega arith in
+    let d : (f / 2 ^ k * 2 ^ k + (g - f / 2 ^ k * 2 ^ k)) / 2 ^ k ≡ f / 2 ^ k = digits-div (f / 2 ^ k) (omega arith) in
+    rw e at d
+
+-- frames of one block have one start, which is in it and starts itself
+pub start-same : (k f g : ℕ) → g / 2 ^ k ≡ f / 2 ^ k → startOf k g ≡ startOf k f
+unfolding startOf
+start-same k f g e = ap (λ (x : ℕ). x * 2 ^ k) e
+
+pub start-in : (k f : ℕ) → startOf k f / 2 ^ k ≡ f / 2 ^ k
+start-in k f = block-in k f (startOf k f) (omega arith) (omega (arith, pow-pos k))
+
+pub start-start : (k f : ℕ) → startOf k (startOf k f) ≡ startOf k f
+start-start k f = start-same k f (startOf k f) (start-in k f)
+
+-- the same by the test of Blocks, for a block that starts at s
+module _ (k s g : ℕ) (st : startOf k s ≡ s) where
+  pub inBlock-is : inBlock k s g ≡ true → g / 2 ^ k ≡ s / 2 ^ k
+  unfolding inBlock
+  inBlock-is t =
+      let p = and-true _ _ t in
+      let lo : s ≤ g = leb-true _ _ (p .0) in
+      let hi : g < s + 2 ^ k = ltb-true _ _ (p .1) in
+      block-in k s g (omega arith) (omega arith)
+
+  pub is-inBlock : g / 2 ^ k ≡ s / 2 ^ k → inBlock k s g ≡ true
+  unfolding inBlock
+  is-inBlock e =
+      let r = in-block k s g e in
+      let lo = r .0 in
+      let hi = r .1 in
+      true-and _ _ (le-leb s g (omega arith)) (lt-ltb g (s + 2 ^ k) (omega arith))
+
+  pub not-inBlock : (g / 2 ^ k ≡ s / 2 ^ k → ⊥) → inBlock k s g ≡ false
+  not-inBlock n = by-test (inBlock k s g) (λ t. absurd (n (inBlock-is t))) (λ t. t)
+
+module _ (F : ℕ) (free : ℕ → Bool) where
+  -- what `around` says, with no numbers: every frame of the block is in the pool and free
+  pub around-at : (k f : ℕ) → around F free f k ≡ true → (g : ℕ) → g / 2 ^ k ≡ f / 2 ^ k → (g < F) × (free g ≡ true)
+  unfolding around
+  around-at k f t g e =
+      let p = and-true _ _ t in
+      let lo = in-block k f g e in
+      let room : startOf k f + 2 ^ k ≤ F = leb-true _ _ (p .0) in
+      (omega arith, allFrom-at (2 ^ k) (startOf k f) free (p .1) g (lo .0) (lo .1))
+
+  pub at-around : (k f : ℕ) → ((g : ℕ) → g / 2 ^ k ≡ f / 2 ^ k → (g < F) × (free g ≡ true)) → around F free f k ≡ true
+  unfolding around
+  at-around k f h =
+      let pos : 0 < 2 ^ k = pow-pos k in
+      let last : startOf k f + (2 ^ k - 1) < F = h (startOf k f + (2 ^ k - 1)) (block-in k f _ (omega arith) (omega arith)) .0 in
+      let room : startOf k f + 2 ^ k ≤ F = omega arith in
+      true-and _ _ (le-leb _ _ room) (at-allFrom (2 ^ k) (startOf k f) free (λ g lo hi. h g (block-in k f g lo hi) .1))
+
+  -- a block of a wholly free block is wholly free
+  pub smaller : (k m f : ℕ) → k ≤ m → around F free f m ≡ true → around F free f k ≡ true
+  smaller k m f h t = at-around k f (λ g e. around-at m f t g (coarser g f k m h e))
+
+  -- all frames of a block have the same answer
+  pub around-same : (k f g : ℕ) → g / 2 ^ k ≡ f / 2 ^ k → around F free f k ≡ true → around F free g k ≡ true
+  around-same k f g e t = at-around k g (λ x ex. around-at k f t x (ex ∙ e))
+
+  pub free-around : (f : ℕ) → f < F → free f ≡ true → around F free f 0 ≡ true
+  free-around f h t =
+      at-around 0 f (λ g e.
+      let same : g ≡ f = sym (div-one g) ∙ e ∙ div-one f in
+      (omega arith, rw same t))
+
+  -- the block of order k around f is wholly free, and in no larger wholly free one
+  pub record Maximal (k f : ℕ) : Type 0 where
+    pub small : k ≤ 10
+    pub whole : around F free f k ≡ true
+    pub alone : (m : ℕ) → k < m → m ≤ 10 → around F free f m ≡ false
+
+  -- each free frame is in such a block
+  pub order-here : (f : ℕ) → f < F → free f ≡ true → (k : ℕ) × (freeOrder F free f ≡ some k) × Maximal k f
+  unfolding freeOrder
+  order-here f h t = go (largest 10 (around F free f)) refl (largest-is 10 (around F free f))
+    where
+      go : (o : Option ℕ) → largest 10 (around F free f) ≡ o → Largest 10 (around F free f) o
+          → (k : ℕ) × (largest 10 (around F free f) ≡ some k) × Maximal k f
+      go o e (greatest k hi y no-more) = (k, e, record { small = hi; whole = y; alone = no-more })
+      go o e (nothing none-is) = true-false (around F free f 0) (free-around f h t) (none-is 0 zero-le)
+
+  -- and in no other
+  pub maximal-order : (k f : ℕ) → Maximal k f → freeOrder F free f ≡ some k
+  unfolding freeOrder
+  maximal-order k f m = largest-unique 10 (around F free f) k (m .small) (m .whole) (m .alone)
+
+  -- it is one as seen from any of its frames
+  pub maximal-same : (k f g : ℕ) → g / 2 ^ k ≡ f / 2 ^ k → Maximal k f → Maximal k g
+  maximal-same k f g e m =
+      record {
+        small = m .small;
+        whole = around-same k f g e (m .whole);
+        alone = λ j lt hi. by-test (around F free g j)
+            (λ t. true-false (around F free f j) (around-same j g f (sym (coarser g f k j (omega arith) e)) t) (m .alone j lt hi))
+            (λ t. t);
+      }
+
+-- what `around` depends on
+
+around-half : (F : ℕ) (p q : ℕ → Bool) → ((g : ℕ) → g < F → p g ≡ q g) → (f k : ℕ) → around F p f k ≡ true → around F q f k ≡ true
+around-half F p q same f k t = at-around F q k f (λ g e. let r = around-at F p k f t g e in (r .0, sym (same g (r .0)) ∙ r .1))
+
+module _ (F : ℕ) (p q : ℕ → Bool) (same : (g : ℕ) → g < F → p g ≡ q g) where
+  pub around-ext : (f k : ℕ) → around F p f k ≡ around F q f k
+  around-ext f k =
+      by-test (around F p f k)
+      (λ t. t ∙ sym (around-half F p q same f k t))
+      (λ t. by-test (around F q f k)
+      (λ u. true-false (around F p f k) (around-half F q p (λ g h. sym (same g h)) f k u) t)
+      (λ u. t ∙ sym u))
+
+  pub order-ext : (f : ℕ) → freeOrder F p f ≡ freeOrder F q f
+  unfolding freeOrder
+  order-ext f = largest-ext 10 (around F p f) (around F q f) (λ k hk. around-ext f k)
+
+-- taking the block of order i at s
+
+pub without-free : (free : ℕ → Bool) (i s g : ℕ) → without free i s g ≡ true → free g ≡ true
+unfolding without
+without-free free i s g t = and-true _ _ t .0
+
+module _ (free : ℕ → Bool) (i s g : ℕ) (st : startOf i s ≡ s) where
+  pub without-out : without free i s g ≡ true → g / 2 ^ i ≡ s / 2 ^ i → ⊥
+  unfolding without
+  without-out t e = true-false {P = ⊥} (inBlock i s g) (is-inBlock i s g st e) (not-true _ (and-true (free g) (not (inBlock i s g)) t .1))
+
+  pub true-without : free g ≡ true → (g / 2 ^ i ≡ s / 2 ^ i → ⊥) → without free i s g ≡ true
+  unfolding without
+  true-without t n = true-and _ _ t (ap not (not-inBlock i s g st n))
+
+module _ (F : ℕ) (free : ℕ → Bool) (i j s : ℕ) (i≤j : i ≤ j) (top : Maximal F free j s) (st : startOf i s ≡ s) where
+  -- a frame outside the free block that was split keeps its order
+  pub outside : (f k : ℕ) → (f / 2 ^ j ≡ s / 2 ^ j → ⊥) → k ≤ 10 → around F (without free i s) f k ≡ around F free f k
+  outside f k away hk =
+      by-test (around F free f k)
+      (λ t. at-around F (without free i s) k f (λ g e.
+      let p = around-at F free k f t g e in
+      (p .0, true-without free i s g st (p .1) (λ gs. meets t g e gs)))
+      ∙ sym t)
+      (λ t. by-test (around F (without free i s) f k)
+      (λ t'. true-false (around F free f k)
+      (at-around F free k f (λ g e. let p = around-at F (without free i s) k f t' g e in (p .0, without-free free i s g (p .1)))) t)
+      (λ t'. t' ∙ sym t))
+    where
+      meets : around F free f k ≡ true → (g : ℕ) → g / 2 ^ k ≡ f / 2 ^ k → g / 2 ^ i ≡ s / 2 ^ i → ⊥
+      meets t g e gs =
+          by-dec (decLe k j)
+          (λ le. away (sym (coarser g f k j le e) ∙ coarser g s i j i≤j gs))
+          (λ gt. true-false (around F free s k)
+          (around-same F free k f s (sym (coarser g s i k (omega arith) gs) ∙ e) t)
+          (top .alone k (omega arith) hk))
+
+  -- of the rest of it, the upper half of order k around f is a free block
+  pub upper-half : (f k : ℕ) → i ≤ k → k < j → (f / 2 ^ k ≡ s / 2 ^ k → ⊥) → f / 2 ^ suc k ≡ s / 2 ^ suc k → Maximal F (without free i s) k f
+  upper-half f k ik kj apart one =
+      let kK : k ≤ 10 = omega (arith, top .small) in
+      record {
+        small = kK;
+        whole = at-around F (without free i s) k f (λ g e.
+            let in-top : g / 2 ^ j ≡ s / 2 ^ j = coarser g f k j (omega arith) e ∙ coarser f s (suc k) j kj one in
+            let p = around-at F free j s (top .whole) g in-top in
+            (p .0, true-without free i s g st (p .1) (λ gs. apart (sym e ∙ coarser g s i k ik gs))));
+        alone = λ m km hm. by-test (around F (without free i s) f m)
+            (λ t. absurd (without-out free i s s st (around-at F (without free i s) m f t s (sym (coarser f s (suc k) m km one)) .1) refl))
+            (λ t. t);
+      }

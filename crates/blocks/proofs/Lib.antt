@@ -1,0 +1,9 @@
+pub mod AroundLaws
+pub mod FreeBlockLaws
+pub mod WordLaws
+pub mod ChoiceLaws
+pub mod SettleLaws
+pub mod SearchedLaws
+pub mod TakeLaws
+pub mod AllocateLaws
+pub mod FreeLaws

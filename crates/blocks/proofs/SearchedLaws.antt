@@ -1,0 +1,372 @@
+-- The first order tried that has a free block gives the block that the rule takes, and what is known after it.
+use mathlib.Core.Path.{_≡_, refl, ap, _∙_, sym}
+use mathlib.Core.Bool.{Bool, true, false, _&&_}
+use mathlib.Core.List.{List}
+use mathlib.Core.Option.{Option, none, some}
+use Prim.Native.Nat.{ℕ, _+_, _^_, _-_, _<_, _≤_, zero-le}
+use native.Mathlib.Decide.{decLt, decLe, ℕ-discrete}
+use native.Mathlib.Omega.{arith}
+use lib.Dec.{eqb, leb, ltb}
+use lib.ListN.{getD}
+use lib.Pow.{pow-mono}
+use borrow.Author.Tests.{leb-true, le-leb, lt-leb, eqb-true, eq-eqb, ne-eqb, lt-ltb, le-ltb, ltb-true}
+use Rattle.words.specs.Searches.{largest, firstFrom, is-some}
+use Rattle.words.proofs.Cases.{by-test, by-dec, true-false, none-some, not-there, and-true}
+use Rattle.words.proofs.SearchLaws.{First, found, missing, firstFrom-is, first-unique, first-none, Largest, greatest, nothing, largest-is, largest-unique, largest-none, some-is, none-is}
+use Rattle.blocks.specs.declared.Block.{Block}
+use Rattle.blocks.specs.declared.Bound.{Bound}
+use Rattle.blocks.specs.Blocks.{block, freeBlock}
+use Rattle.blocks.specs.FrameWords.{freeIn, lawful}
+use Rattle.blocks.specs.Choice.{lowest, serving, isServed, orderFor, cutAt, takeFrom, takeOrder, takeBlock, without}
+use Rattle.blocks.specs.Around.{startOf, around}
+use Rattle.blocks.specs.Passes.{orderWithin, orderAt, least, asBlock, Clear, Searched, scanFrom, boundAfter}
+use Rattle.blocks.proofs.AroundLaws.{double, around-at, at-around, without-free}
+use Rattle.blocks.proofs.FreeBlockLaws.{BlockAt, free-block-at, at-free-block, in-block-at}
+use Rattle.blocks.proofs.WordLaws.{Lawful, lawful-is, word-block, no-block}
+use Rattle.blocks.proofs.ChoiceLaws.{lowest-at, at-lowest, serving-at, at-serving, at-served, takeOrder-eq}
+
+-- the order that fits the pages left
+
+pub order-up : (left k z : ℕ) → z ≡ 2 ^ k → z ≤ left → left < z + z → k ≤ 10 → orderWithin left ≡ some k
+unfolding orderWithin
+order-up left k z e fits less h =
+    largest-unique 10 (λ i. leb (2 ^ i) left) k h (le-leb (2 ^ k) left (omega arith)) (λ j kj hj.
+    let d = double k in
+    let m : 2 ^ (k + 1) ≤ 2 ^ j = pow-mono (omega arith) in
+    lt-leb (2 ^ j) left (omega arith))
+
+pub order-top : (left k z : ℕ) → z ≡ 2 ^ k → z ≤ left → 10 ≤ k → k ≤ 10 → orderWithin left ≡ some k
+unfolding orderWithin
+order-top left k z e fits ge le = largest-unique 10 (λ i. leb (2 ^ i) left) k le (le-leb (2 ^ k) left (omega arith)) (λ j kj hj. absurd (omega arith))
+
+record Within (left top : ℕ) : Type 0 where
+  small : top ≤ 10
+  fits : 2 ^ top ≤ left
+  no-more : (m : ℕ) → top < m → m ≤ 10 → leb (2 ^ m) left ≡ false
+
+within : (left top : ℕ) → orderWithin left ≡ some top → Within left top
+unfolding orderWithin
+within left top e = go (largest 10 (λ i. leb (2 ^ i) left)) e (largest-is 10 (λ i. leb (2 ^ i) left))
+  where
+    go : (o : Option ℕ) → o ≡ some top → Largest 10 (λ i. leb (2 ^ i) left) o → Within left top
+    go o e (greatest j hi y m) =
+        let s : j ≡ top = cc in
+        record { small = omega arith; fits = rw (← s) (leb-true _ _ y); no-more = λ i lt le. m i (omega arith) le }
+    go o e (nothing m) = none-some top none refl e
+
+order-some : (left : ℕ) → 1 ≤ left → (w : ℕ) × (orderWithin left ≡ some w)
+unfolding orderWithin
+order-some left h = go (largest 10 (λ i. leb (2 ^ i) left)) refl (largest-is 10 (λ i. leb (2 ^ i) left))
+  where
+    go : (o : Option ℕ) → largest 10 (λ i. leb (2 ^ i) left) ≡ o → Largest 10 (λ i. leb (2 ^ i) left) o → (w : ℕ) × (largest 10 (λ i. leb (2 ^ i) left) ≡ some w)
+    go o e (greatest i hi y more) = (i, e)
+    go o e (nothing n) = true-false (leb (2 ^ 0) left) (le-leb (2 ^ 0) left (omega arith)) (n 0 (omega arith))
+
+-- the orders tried
+
+pub tried-up : (limit top t : ℕ) → top + t ≤ limit → top + t ≡ orderAt limit top t
+unfolding orderAt
+tried-up limit top t h = rw (le-leb _ _ h, orderAt)
+
+pub tried-down : (limit top t : ℕ) → limit < top + t → limit - t ≡ orderAt limit top t
+unfolding orderAt
+tried-down limit top t h = rw (lt-leb _ _ h, orderAt)
+
+pub tried-small : (limit top t k : ℕ) → limit ≤ 10 → k ≡ orderAt limit top t → k ≤ 10
+tried-small limit top t k h e =
+    by-dec (decLe (top + t) limit)
+    (λ le. let q = tried-up limit top t le in omega arith)
+    (λ gt. let q = tried-down limit top t (omega arith) in omega arith)
+
+pub least-first : (a b : ℕ) → a < b → a ≡ least a b
+unfolding least
+least-first a b h = rw (lt-ltb _ _ h, least)
+
+pub least-second : (a b : ℕ) → b ≤ a → b ≡ least a b
+unfolding least
+least-second a b h = rw (le-ltb _ _ h, least)
+
+pub least-is : (a b m : ℕ) → m ≡ least a b → (m ≤ a) × (m ≤ b) × (m < b → m ≡ a)
+least-is a b m e =
+    by-dec (decLt a b)
+    (λ lt. let q = least-first a b lt in (omega arith, omega arith, λ h. omega arith))
+    (λ ge. let q = least-second a b (omega arith) in (omega arith, omega arith, λ h. absurd (omega arith)))
+
+-- no order tried before t has a free block
+pub None : ℕ → (ℕ → Bool) → ℕ → ℕ → ℕ → Type 0
+None F free limit top t = (u : ℕ) → u < t → lowest F free (orderAt limit top u) ≡ none
+
+module _ (F : ℕ) (free : ℕ → Bool) (limit top : ℕ) where
+  pub none-zero : None F free limit top 0
+  unfolding None
+  none-zero u h = absurd (omega arith)
+
+  none-more : (t : ℕ) → None F free limit top t → lowest F free (orderAt limit top t) ≡ none → None F free limit top (t + 1)
+  unfolding None
+  none-more t n e u h = by-dec (ℕ-discrete u t) (λ x. rw x e) (λ ne. n u (omega arith))
+
+  -- an order at least top, and one below it
+  none-up : (t j : ℕ) → None F free limit top t → top ≤ j → j ≤ limit → j < top + t → lowest F free j ≡ none
+  unfolding None
+  none-up t j n lo hi lt =
+      let e : top + (j - top) ≡ j = omega arith in
+      let o : orderAt limit top (j - top) ≡ j = sym (tried-up limit top (j - top) (omega arith)) ∙ e in
+      ap (lowest F free) (sym o) ∙ n (j - top) (omega arith)
+
+  none-down : (t j : ℕ) → top ≤ limit → None F free limit top t → j < top → limit < t + j → lowest F free j ≡ none
+  unfolding None
+  none-down t j tl n lo lt =
+      let e : limit - (limit - j) ≡ j = omega arith in
+      let o : orderAt limit top (limit - j) ≡ j = sym (tried-down limit top (limit - j) (omega arith)) ∙ e in
+      ap (lowest F free) (sym o) ∙ n (limit - j) (omega arith)
+
+-- no free block has an order above limit
+NoneAbove : ℕ → (ℕ → Bool) → ℕ → Type 0
+NoneAbove F free limit = (k : ℕ) → limit < k → k ≤ 10 → lowest F free k ≡ none
+
+module _ (F : ℕ) (free : ℕ → Bool) (left : ℕ) where
+  taken : (i j s : ℕ) → i ≤ 10 → 2 ^ i ≤ left → serving F free i ≡ some j → lowest F free j ≡ some s
+      → ((m : ℕ) → i < m → m ≤ 10 → isServed F free left m ≡ false) → takeBlock F free left ≡ some (block i s)
+  unfolding takeBlock orderFor
+  taken i j s hi fits a b more =
+      let o : largest 10 (isServed F free left) ≡ some i = largest-unique 10 (isServed F free left) i hi (at-served F free left i fits (some-is (serving F free i) j a)) more in
+      ap (takeOrder F free) o ∙ takeOrder-eq F free i j s a b
+
+  too-large : (m : ℕ) → leb (2 ^ m) left ≡ false → isServed F free left m ≡ false
+  unfolding isServed
+  too-large m e = rw (e, isServed)
+
+  -- an order that nothing serves
+  unserved : (m : ℕ) → ((j : ℕ) → m ≤ j → j ≤ 10 → lowest F free j ≡ none) → m ≤ 10 → isServed F free left m ≡ false
+  unfolding isServed serving
+  unserved m n hi =
+      let z : firstFrom (11 - m) m (λ j. is-some (lowest F free j)) ≡ none = first-none (11 - m) m _ (λ j lo up. none-is _ (n j lo (omega arith))) in
+      by-test (leb (2 ^ m) left)
+      (λ t. rw (t, isServed) (none-is _ z))
+      (λ t. rw (t, isServed))
+
+  module _ (limit top L : ℕ) (cap : limit ≤ 10) (above : NoneAbove F free limit) (w : Within left L) (te : top ≡ least L limit) where
+    first-order : (t s : ℕ) → t ≤ limit → None F free limit top t → lowest F free (orderAt limit top t) ≡ some s
+        → takeBlock F free left ≡ some (block (least (orderAt limit top t) top) s)
+    unfolding serving NoneAbove
+    first-order t s ht n e =
+        let q = least-is L limit top te in
+        let topL = q .0 in
+        let topl = q .1 in
+        let f = w .fits in
+        let fm : 2 ^ top ≤ 2 ^ L = pow-mono topL in
+        by-dec (decLe (top + t) limit)
+        (λ le.
+        let o : orderAt limit top t ≡ top + t = sym (tried-up limit top t le) in
+        let a : lowest F free (top + t) ≡ some s = ap (lowest F free) (sym o) ∙ e in
+        let l : least (orderAt limit top t) top ≡ top = ap (λ (x : ℕ). least x top) o ∙ sym (least-second (top + t) top (omega arith)) in
+        let sv : serving F free top ≡ some (top + t) =
+        first-unique (11 - top) top (λ j. is-some (lowest F free j)) (top + t) (omega arith) (omega arith) (some-is _ s a)
+        (λ j lo hi. none-is _ (none-up F free limit top t j n lo (omega arith) hi))
+        in
+        rw l (taken top (top + t) s (omega arith) (omega arith) sv a (λ m lt hi. by-dec (decLe m L)
+        (λ mL. unserved m (λ j lo h. above j (by-dec (decLt top limit) (λ x. let z = q .2 x in absurd (omega arith)) (λ x. omega arith)) h) hi)
+        (λ gt. too-large m (w .no-more m (omega arith) hi)))))
+        (λ gt.
+        let k : ℕ = limit - t in
+        let o : orderAt limit top t ≡ k = sym (tried-down limit top t (omega arith)) in
+        let a : lowest F free k ≡ some s = ap (lowest F free) (sym o) ∙ e in
+        let l : least (orderAt limit top t) top ≡ k = ap (λ (x : ℕ). least x top) o ∙ sym (least-first k top (omega arith)) in
+        let up : (j : ℕ) → k < j → j ≤ 10 → lowest F free j ≡ none =
+        λ j lo hi. by-dec (decLt limit j) (λ x. above j x hi)
+        (λ x. by-dec (decLe top j) (λ ge. none-up F free limit top t j n ge (omega arith) (omega arith)) (λ lt. none-down F free limit top t j topl n (omega arith) (omega arith)))
+        in
+        let sv : serving F free k ≡ some k =
+        first-unique (11 - k) k (λ j. is-some (lowest F free j)) k (omega arith) (omega arith) (some-is _ s a)
+        (λ j lo hi. absurd (omega arith))
+        in
+        let m : 2 ^ k ≤ 2 ^ top = pow-mono (omega arith) in
+        rw l (taken k k s (omega arith) (omega arith) sv a (λ m lt hi. unserved m (λ j lo h. up j (omega arith) h) hi)))
+
+    no-order : None F free limit top (limit + 1) → takeBlock F free left ≡ none
+    unfolding takeBlock orderFor takeOrder NoneAbove
+    no-order n =
+        let topl = least-is L limit top te .1 in
+        let all : (j : ℕ) → j ≤ 10 → lowest F free j ≡ none =
+        λ j hi. by-dec (decLt limit j) (λ x. above j x hi)
+        (λ x. by-dec (decLe top j) (λ ge. none-up F free limit top (limit + 1) j n ge (omega arith) (omega arith)) (λ lt. none-down F free limit top (limit + 1) j topl n (omega arith) (omega arith)))
+        in
+        let o : largest 10 (isServed F free left) ≡ none = largest-none 10 (isServed F free left) (λ m hi. unserved m (λ j lo h. all j h) hi) in
+        ap (takeOrder F free) o
+
+-- the scan for one order
+
+module _ (F : ℕ) (free : ℕ → Bool) (k f : ℕ) where
+  clear-more : Clear F free k f → freeBlock F free k f ≡ false → Clear F free k (f + 1)
+  clear-more c n = record { none-at = λ s h. by-dec (ℕ-discrete s f) (λ e. rw e n) (λ ne. c .none-at s (omega arith)) }
+
+  clear-none : Clear F free k f → F ≤ f → lowest F free k ≡ none
+  unfolding lowest
+  clear-none c h = first-none F 0 (freeBlock F free k) (λ j lo hi. c .none-at j (omega arith))
+
+  clear-found : Clear F free k f → f < F → freeBlock F free k f ≡ true → lowest F free k ≡ some f
+  unfolding lowest
+  clear-found c h t = first-unique F 0 (freeBlock F free k) f zero-le (omega arith) t (λ j lo hi. c .none-at j hi)
+
+  found-clear : lowest F free k ≡ some f → Clear F free k f
+  unfolding lowest
+  found-clear e = go (firstFrom F 0 (freeBlock F free k)) e (firstFrom-is F 0 (freeBlock F free k))
+    where
+      go : (o : Option ℕ) → o ≡ some f → First F 0 (freeBlock F free k) o → Clear F free k f
+      go o e (found x lo hi t m) = let xf : x ≡ f = cc in record { none-at = λ s h. m s zero-le (omega arith) }
+      go o e (missing m) = none-some f none refl e
+
+-- the scan starts where nothing was missed
+pub scan-start : (F : ℕ) (free : ℕ → Bool) (x : Bound) (k s : ℕ) → Searched F free x → s ≡ scanFrom x k → Clear F free k s
+unfolding scanFrom
+scan-start F free x k s known e =
+    by-test (eqb k (x .limit))
+    (λ t. let kl : k ≡ x .limit = eqb-true _ _ t in let sf : s ≡ x .from .0 = rw (t, scanFrom) at e in rw (kl, sf) (known .before))
+    (λ t. let sz : s ≡ 0 = rw (t, scanFrom) at e in record { none-at = λ g h. absurd (omega arith) })
+
+pub scan-same : (x : Bound) (k : ℕ) → k ≡ x .limit → x .from .0 ≡ scanFrom x k
+unfolding scanFrom
+scan-same x k e = rw (eq-eqb _ _ e, scanFrom)
+
+pub scan-other : (x : Bound) (k : ℕ) → (k ≡ x .limit → ⊥) → 0 ≡ scanFrom x k
+unfolding scanFrom
+scan-other x k n = rw (ne-eqb _ _ n, scanFrom)
+
+as-some : (o : Option Block) (x : Block) → o ≡ some x → x ≡ asBlock o
+unfolding asBlock
+as-some o x e = rw e
+
+as-none : (o : Option Block) → o ≡ none → block 11 0 ≡ asBlock o
+unfolding asBlock
+as-none o e = rw e
+
+above-of : (F : ℕ) (free : ℕ → Bool) (x : Bound) → Searched F free x → NoneAbove F free (x .limit)
+unfolding NoneAbove
+above-of F free x known = known .above
+
+-- what the search ends with
+
+module _ (F : ℕ) (b : List ℕ) (lw : lawful F b ≡ true) (left : ℕ) (x : Bound) (L top t : ℕ) (o : orderWithin left ≡ some L) (cap : x .limit ≤ 10) (te : top ≡ least L (x .limit)) (known : Searched F (freeIn b) x) where
+  pub chosen : (k f m : ℕ) → t < x .limit + 1 → k ≡ orderAt (x .limit) top t → None F (freeIn b) (x .limit) top t → Clear F (freeIn b) k f → f < F → getD b f 0 ≡ 16384 + k
+      → m ≡ least k top → block m f ≡ asBlock (takeBlock F (freeIn b) left)
+  chosen k f m ht ke n cl h e me =
+      let is : lowest F (freeIn b) k ≡ some f = clear-found F (freeIn b) k f cl h (at-free-block F (freeIn b) k f (word-block F b (lawful-is F b lw) k f h e)) in
+      let took : takeBlock F (freeIn b) left ≡ some (block (least (orderAt (x .limit) top t) top) f) =
+      first-order F (freeIn b) left (x .limit) top L cap (above-of F (freeIn b) x known) (within left L o) te t f (omega arith) n (rw (← ke) is)
+      in
+      let mm : m ≡ least (orderAt (x .limit) top t) top = rw (← ke) me in
+      rw mm (as-some _ _ took)
+
+  pub skipped : (k f : ℕ) → k ≡ orderAt (x .limit) top t → None F (freeIn b) (x .limit) top t → Clear F (freeIn b) k f → F ≤ f → None F (freeIn b) (x .limit) top (t + 1)
+  skipped k f ke n cl h = none-more F (freeIn b) (x .limit) top t n (rw (← ke) (clear-none F (freeIn b) k f cl h))
+
+  pub chosen-none : None F (freeIn b) (x .limit) top t → t ≡ x .limit + 1 → block 11 0 ≡ asBlock (takeBlock F (freeIn b) left)
+  chosen-none n e = as-none _ (no-order F (freeIn b) left (x .limit) top L cap (above-of F (freeIn b) x known) (within left L o) te (rw e at n))
+
+pub passed : (F : ℕ) (b : List ℕ) → lawful F b ≡ true → (k f : ℕ) → Clear F (freeIn b) k f → f < F → (getD b f 0 ≡ 16384 + k → ⊥) → Clear F (freeIn b) k (f + 1)
+passed F b lw k f cl h n = clear-more F (freeIn b) k f cl (no-block F b (lawful-is F b lw) k f h n)
+
+-- what is known after a block was taken
+
+module _ (F : ℕ) (free : ℕ → Bool) where
+  pub nothing-known : Searched F free (record { limit = 10; from = record { 0 = 0 } })
+  nothing-known = record { above = λ k lo hi. absurd (omega arith); before = record { none-at = λ s h. absurd (omega arith) } }
+
+  cut-is : (i : ℕ) (x : Block) (o : Option ℕ) → cutAt i o ≡ some x → (x .order ≡ i) × (o ≡ some (x .start .0))
+  unfolding cutAt
+  cut-is i x none e = none-some x none refl e
+  cut-is i x (some s) e = let q : block i s ≡ x = cc in (sym (ap (λ (y : Block). y .order) q), ap (λ (y : Block). some (y .start .0)) q)
+
+  from-is : (i : ℕ) (x : Block) (o : Option ℕ) → takeFrom F free i o ≡ some x → (x .order ≡ i) × ((j : ℕ) × (o ≡ some j) × (lowest F free j ≡ some (x .start .0)))
+  unfolding takeFrom
+  from-is i x none e = none-some x none refl e
+  from-is i x (some j) e = let q = cut-is i x (lowest F free j) e in (q .0, (j, refl, q .1))
+
+  -- a block below the order that fits: no larger order has one, and it is the first of its order
+  lower : (left w : ℕ) (x : Block) → Within left w → takeBlock F free left ≡ some x → x .order < w → NoneAbove F free (x .order) × (lowest F free (x .order) ≡ some (x .start .0))
+  unfolding takeBlock orderFor takeOrder NoneAbove
+  lower left w x wi e lt = go (largest 10 (isServed F free left)) e (largest-is 10 (isServed F free left))
+    where
+      go : (o : Option ℕ) → takeOrder F free o ≡ some x → Largest 10 (isServed F free left) o
+          → ((k : ℕ) → x .order < k → k ≤ 10 → lowest F free k ≡ none) × (lowest F free (x .order) ≡ some (x .start .0))
+      go o eo (nothing n) = none-some x none refl eo
+      go o eo (greatest i hi y more) =
+          let p = from-is i x (serving F free i) eo in
+          let oi : x .order ≡ i = p .0 in
+          let j : ℕ = p .1 .0 in
+          let q = serving-at F free i j hi (p .1 .1) in
+          let ij = q .0 in
+          let hj = q .1 in
+          let none-up : (k : ℕ) → x .order < k → k ≤ 10 → lowest F free k ≡ none = λ k lo hk. not-there (lowest F free k) (λ s es.
+          let m : ℕ = x .order + 1 in
+          let pm : 2 ^ m ≤ 2 ^ w = pow-mono (omega arith) in
+          let f = wi .fits in
+          let sv : isServed F free left m ≡ true = at-served F free left m (omega arith) (at-serving F free m k s (omega arith) hk (lowest-at F free k s es)) in
+          true-false (isServed F free left m) sv (more m (omega arith) (omega arith))) in
+          let ji : j ≡ x .order = by-dec (decLt (x .order) j)
+          (λ up. none-some (x .start .0) (lowest F free j) (none-up j up hj) (p .1 .2))
+          (λ le. omega arith) in
+          (none-up, rw ji at (p .1 .2))
+
+  -- what is known stays known when frames are taken
+  stays : (i s : ℕ) (x : Bound) → x .limit ≤ 10 → Searched F free x → Searched F (without free i s) x
+  stays i s x cap known = record {
+    above = λ k lo hi. not-there (lowest F (without free i s) k) (λ t et.
+        let q = larger k t hi (free-of k t (lowest-at F (without free i s) k t et .maximal .whole)) in
+        let kq = q .1 in
+        let r = at-lowest F free (q .0) (startOf (q .0) t) (q .3) in
+        none-some (r .0) (lowest F free (q .0)) (known .above (q .0) (omega arith) (q .2)) (r .1));
+    before = record { none-at = λ t ht. by-test (freeBlock F (without free i s) (x .limit) t) (λ y. gone t ht (free-block-at F (without free i s) (x .limit) t y)) (λ y. y) };
+  }
+    where
+      free-of : (k t : ℕ) → around F (without free i s) t k ≡ true → around F free t k ≡ true
+      free-of k t y = at-around F free k t (λ g e. let r = around-at F (without free i s) k t y g e in (r .0, without-free free i s g (r .1)))
+
+      larger : (k t : ℕ) → k ≤ 10 → around F free t k ≡ true → (j : ℕ) × (k ≤ j) × (j ≤ 10) × BlockAt F free j (startOf j t)
+      larger k t hi y = in-block-at F free k t hi y
+
+      gone : (t : ℕ) → t < x .from .0 → BlockAt F (without free i s) (x .limit) t → freeBlock F (without free i s) (x .limit) t ≡ false
+      gone t ht b =
+          let q = larger (x .limit) t cap (free-of (x .limit) t (b .maximal .whole)) in
+          let lq = q .1 in
+          let r = at-lowest F free (q .0) (startOf (q .0) t) (q .3) in
+          by-dec (decLt (x .limit) (q .0))
+          (λ up. none-some (r .0) (lowest F free (q .0)) (known .above (q .0) up (q .2)) (r .1))
+          (λ le.
+          let same : q .0 ≡ x .limit = omega arith in
+          let st : startOf (q .0) t ≡ t = rw (← same) at (b .aligned) in
+          let here : BlockAt F free (x .limit) t = rw (st, same) at (q .3) in
+          true-false (freeBlock F free (x .limit) t) (at-free-block F free (x .limit) t here) (known .before .none-at t ht))
+
+  pub known-after : (left : ℕ) (x y : Bound) (b : Block) → 1 ≤ left → x .limit ≤ 10 → b .order ≤ 10 → Searched F free x → takeBlock F free left ≡ some b
+      → y ≡ boundAfter x b left → Searched F (without free (b .order) (b .start .0)) y
+  unfolding boundAfter NoneAbove
+  known-after left x y b pos cap hb known e ye =
+      let q = order-some left pos in
+      let w : ℕ = q .0 in
+      by-test (ltb (b .order) w)
+      (λ t.
+      let yb : y ≡ record { limit = b .order; from = b .start } = rw (q .1, boundAfter, t) at ye in
+      let l = lower left w b (within left w (q .1)) e (ltb-true _ _ t) in
+      rw yb (stays (b .order) (b .start .0) (record { limit = b .order; from = b .start }) hb
+      (record { above = l .0; before = found-clear F free (b .order) (b .start .0) (l .1) })))
+      (λ t.
+      let yx : y ≡ x = rw (q .1, boundAfter, t) at ye in
+      rw yx (stays (b .order) (b .start .0) x cap known))
+
+-- the bound by cases, as the code decides it
+
+pub bound-same : (x : Bound) (b : Block) (left w : ℕ) → orderWithin left ≡ some w → w ≤ b .order → x ≡ boundAfter x b left
+unfolding boundAfter
+bound-same x b left w e h = rw (e, boundAfter, le-ltb _ _ h)
+
+pub bound-down : (x : Bound) (b : Block) (left w : ℕ) → orderWithin left ≡ some w → b .order < w → record { limit = b .order; from = b .start } ≡ boundAfter x b left
+unfolding boundAfter
+bound-down x b left w e h = rw (e, boundAfter, lt-ltb _ _ h)
+
+pub bound-small : (x y : Bound) (b : Block) (left : ℕ) → x .limit ≤ 10 → b .order ≤ 10 → 1 ≤ left → y ≡ boundAfter x b left → y .limit ≤ 10
+bound-small x y b left cap hb pos ye =
+    let q = order-some left pos in
+    by-dec (decLt (b .order) (q .0))
+    (λ lt. let z = ap (λ (u : Bound). u .limit) (ye ∙ sym (bound-down x b left (q .0) (q .1) lt)) in omega arith)
+    (λ ge. let z = ap (λ (u : Bound). u .limit) (ye ∙ sym (bound-same x b left (q .0) (q .1) (omega arith))) in omega arith)

@@ -1,0 +1,350 @@
+-- The pass over the pool that settles its words, or checks them: one step, and what the whole pass leaves.
+use mathlib.Core.Path.{_≡_, refl, ap, _∙_, sym}
+use mathlib.Core.Bool.{Bool, true, false}
+use mathlib.Core.List.{List}
+use mathlib.Core.Option.{Option, none, some}
+use Prim.Native.Nat.{ℕ, suc, _+_, _/_, _%_, _^_, _-_, _<_, _≤_, zero-le}
+use native.Mathlib.Decide.{decLt, decLe, ℕ-discrete}
+use native.Mathlib.Omega.{arith}
+use lib.Dec.{eqb}
+use lib.ListN.{length, getD, set}
+use lib.Seq.{getD-set-same, getD-set-other}
+use lib.Pow.{pow-pos}
+use borrow.Author.Tests.{eqb-true, eq-eqb, ne-eqb}
+use Rattle.words.specs.Searches.{allFrom}
+use Rattle.words.proofs.Cases.{by-test, by-dec, true-false}
+use Rattle.words.proofs.TableLaws.{is-tabulate}
+use Rattle.words.proofs.SearchLaws.{allFrom-at, at-allFrom, some-fails}
+use Rattle.blocks.specs.FrameWords.{ownerOf, ownersOf, freeIn, lawful, frameWord, frameWords}
+use Rattle.blocks.specs.Around.{startOf, around, freeOrder, orderWord}
+use Rattle.blocks.specs.Passes.{Edge, Filled, SettledTo, Checked, sameIn}
+use Rattle.blocks.proofs.AroundLaws.{double, mod-start, start-mod, finer, coarser, in-block, block-in, start-same, around-at, at-around, around-same, smaller, around-ext, free-around, Maximal, order-here, maximal-order, maximal-same}
+use Rattle.blocks.proofs.WordLaws.{owner-low, owner-high, owners-small, free-same, free-zero, is-held, start-word, other-word, free-frame, held-word, high-word, word-ext, words-ext, owner-back, Lawful, lawful-yes, lawful-no}
+
+-- single words
+
+pub is-same : (b : List ℕ) (v g : ℕ) → getD b g 0 ≡ v → sameIn b v g ≡ true
+unfolding sameIn
+is-same b v g e = eq-eqb _ _ e
+
+pub is-other : (b : List ℕ) (v g : ℕ) → (getD b g 0 ≡ v → ⊥) → sameIn b v g ≡ false
+unfolding sameIn
+is-other b v g e = ne-eqb _ _ e
+
+-- a run that is filled
+
+pub fill-none : (b : List ℕ) (s v : ℕ) → Filled b s s v b
+fill-none b s v = record { inside = λ g lo hi. absurd (omega arith); below = λ g h. refl; above = λ g h. refl }
+
+pub fill-more : (b : List ℕ) (s e v : ℕ) (b′ : List ℕ) → s ≤ e → e < length b′ → Filled b s e v b′ → Filled b s (e + 1) v (set b′ e v)
+fill-more b s e v b′ se h f =
+    record {
+      inside = λ g lo hi. by-dec (ℕ-discrete g e)
+          (λ ge. rw ge (getD-set-same b′ e v 0 h))
+          (λ ne. getD-set-other b′ e g v 0 ne ∙ f .inside g lo (omega arith));
+      below = λ g lt. getD-set-other b′ e g v 0 (λ x. omega arith) ∙ f .below g lt;
+      above = λ g le. getD-set-other b′ e g v 0 (λ x. omega arith) ∙ f .above g (omega arith);
+    }
+
+-- all of a range, one turn
+
+module _ (p : ℕ → Bool) (g e : ℕ) (h : g < e) where
+  pub all-step : p g ≡ true → allFrom (e - g) g p ≡ allFrom (e - (g + 1)) (g + 1) p
+  unfolding allFrom
+  all-step t =
+      let s : e - g ≡ suc (e - (g + 1)) = omega arith in
+      let n : suc g ≡ g + 1 = omega arith in
+      rw (s, t, allFrom, n)
+
+  pub all-stop : p g ≡ false → false ≡ allFrom (e - g) g p
+  unfolding allFrom
+  all-stop t =
+      let s : e - g ≡ suc (e - (g + 1)) = omega arith in
+      rw (s, t, allFrom)
+
+pub all-end : (p : ℕ → Bool) (g e : ℕ) → e ≤ g → true ≡ allFrom (e - g) g p
+unfolding allFrom
+all-end p g e h = let s : e - g ≡ 0 = omega arith in rw s
+
+-- edges
+
+pub edge-zero : (F : ℕ) (free : ℕ → Bool) → Edge F free 0
+edge-zero F free = record { starts = λ m h t. let r = in-block m 0 0 refl in omega (arith, r .0) }
+
+pub edge-held : (F : ℕ) (free : ℕ → Bool) (f : ℕ) → free f ≡ false → Edge F free (f + 1)
+edge-held F free f n = record {
+  starts = λ m h t.
+      let r = in-block m (f + 1) (f + 1) refl in
+      by-dec (ℕ-discrete (startOf m (f + 1)) (f + 1)) (λ e. e)
+      (λ ne. true-false (free f) (around-at F free m (f + 1) t f (block-in m (f + 1) f (omega (arith, r .0)) (omega (arith, r .1))) .1) n);
+}
+
+pub edge-ext : (F : ℕ) (p q : ℕ → Bool) → ((g : ℕ) → g < F → p g ≡ q g) → (f : ℕ) → Edge F p f → Edge F q f
+edge-ext F p q same f e = record { starts = λ m h t. e .starts m h (around-ext F p q same f m ∙ t) }
+
+module _ (F : ℕ) (free : ℕ → Bool) (k f : ℕ) (m : Maximal F free k f) (st : startOf k f ≡ f) where
+  pub block-end : f + 2 ^ k ≤ F
+  block-end =
+      let pos : 0 < 2 ^ k = pow-pos k in
+      let last = around-at F free k f (m .whole) (f + (2 ^ k - 1)) (block-in k f _ (omega arith) (omega arith)) in
+      omega (arith, last .0)
+
+  pub edge-block : Edge F free (f + 2 ^ k)
+  edge-block = record {
+    starts = λ j h t. by-dec (ℕ-discrete (startOf j (f + 2 ^ k)) (f + 2 ^ k)) (λ e. e)
+        (λ ne.
+        let pos : 0 < 2 ^ k = pow-pos k in
+        let r = in-block j (f + 2 ^ k) (f + 2 ^ k) refl in
+        let lo = r .0 in
+        let hi = r .1 in
+        let last : ℕ = f + (2 ^ k - 1) in
+        let mine : last / 2 ^ k ≡ f / 2 ^ k = block-in k f last (omega arith) (omega arith) in
+        let next : last / 2 ^ j ≡ (f + 2 ^ k) / 2 ^ j = block-in j (f + 2 ^ k) last (omega arith) (omega arith) in
+        by-dec (decLe j k)
+        (λ le. let q = in-block k f (f + 2 ^ k) (sym (coarser last (f + 2 ^ k) j k le next) ∙ mine) in absurd (omega (arith, q .1)))
+        (λ gt. true-false (around F free f j)
+        (around-same F free j (f + 2 ^ k) f (sym (coarser last f k j (omega arith) mine) ∙ next) t) (m .alone j (omega arith) h)));
+  }
+
+-- one step
+
+module _ (F : ℕ) (b : List ℕ) (f : ℕ) (h : f < F) (edge : Edge F (freeIn b) f) where
+  pub held-step : (ownerOf (getD b f 0) ≡ 0 → ⊥) → SettledTo F b f (f + 1) b
+  unfolding ownersOf
+  held-step n =
+      record {
+        on = omega arith;
+        inside = omega arith;
+        words = λ g lo hi.
+            let gf : g ≡ f = omega arith in
+            rw gf (word ∙ sym (held-word F (ownersOf b) f h n));
+        below = λ g lt. refl;
+        above = λ g le. refl;
+        edge = edge-held F (freeIn b) f (is-held b f n);
+      }
+    where
+      word : getD b f 0 ≡ ownerOf (getD b f 0)
+      word = by-dec (decLe (getD b f 0) 4096) (λ le. sym (owner-low _ le)) (λ gt. absurd (n (owner-high _ (omega arith))))
+
+  -- the free block at f
+  pub record BlockHere (k : ℕ) : Type 0 where
+    pub maximal : Maximal F (freeIn b) k f
+    pub starts : startOf k f ≡ f
+    pub first : frameWord F (ownersOf b) f ≡ 16384 + k
+    pub others : (g : ℕ) → f < g → g < f + 2 ^ k → frameWord F (ownersOf b) g ≡ 8192
+
+  pub block-here : (k : ℕ) → freeIn b f ≡ true → freeOrder F (freeIn b) f ≡ some k → BlockHere k
+  unfolding freeIn
+  block-here k t e =
+      let q = order-here F (freeIn b) f h t in
+      let same : some (q .0) ≡ some k = sym (q .1) ∙ e in
+      let kk : q .0 ≡ k = cc in
+      let m : Maximal F (freeIn b) k f = rw kk at (q .2) in
+      let st : startOf k f ≡ f = edge .starts k (m .small) (m .whole) in
+      record { maximal = m; starts = st; first = first-word m st; others = λ g lo hi. other m st g lo hi }
+    where
+      word-at : (g : ℕ) → g / 2 ^ k ≡ f / 2 ^ k → Maximal F (freeIn b) k f → frameWord F (ownersOf b) g ≡ orderWord g (some k)
+      word-at g e m =
+          let p = around-at F (freeIn b) k f (m .whole) g e in
+          let lv : freeOrder F (freeIn b) g ≡ some k = maximal-order F (freeIn b) k g (maximal-same F (freeIn b) k f g e m) in
+          free-frame F (ownersOf b) g (p .0) (free-zero b g (p .1)) ∙ ap (orderWord g) lv
+
+      first-word : Maximal F (freeIn b) k f → startOf k f ≡ f → frameWord F (ownersOf b) f ≡ 16384 + k
+      first-word m st = word-at f refl m ∙ start-word f k st
+
+      other : Maximal F (freeIn b) k f → startOf k f ≡ f → (g : ℕ) → f < g → g < f + 2 ^ k → frameWord F (ownersOf b) g ≡ 8192
+      other m st g lo hi =
+          let e : g / 2 ^ k ≡ f / 2 ^ k = block-in k f g (omega arith) (omega arith) in
+          let s = start-same k f g e in
+          word-at g e m ∙ other-word g k (λ x. omega arith)
+
+  pub free-step : (k : ℕ) (b′ : List ℕ) → f < length b → freeIn b f ≡ true → freeOrder F (freeIn b) f ≡ some k
+      → Filled (set b f (16384 + k)) (f + 1) (f + 2 ^ k) 8192 b′ → SettledTo F b f (f + 2 ^ k) b′
+  free-step k b′ len t e w =
+      let x = block-here k t e in
+      let pos : 0 < 2 ^ k = pow-pos k in
+      record {
+        on = omega arith;
+        inside = block-end F (freeIn b) k f (x .maximal) (x .starts);
+        words = λ g lo hi. by-dec (ℕ-discrete g f)
+            (λ gf. rw gf (w .below f (omega arith) ∙ getD-set-same b f (16384 + k) 0 len ∙ sym (x .first)))
+            (λ ne. w .inside g (omega arith) hi ∙ sym (x .others g (omega arith) hi));
+        below = λ g lt. w .below g (omega arith) ∙ getD-set-other b f g (16384 + k) 0 (λ z. omega arith);
+        above = λ g le. w .above g le ∙ getD-set-other b f g (16384 + k) 0 (λ z. omega arith);
+        edge = edge-block F (freeIn b) k f (x .maximal) (x .starts);
+      }
+
+  pub free-step-by : (k z : ℕ) (b′ : List ℕ) → z ≡ 2 ^ k → f < length b → freeIn b f ≡ true → freeOrder F (freeIn b) f ≡ some k
+      → Filled (set b f (16384 + k)) (f + 1) (f + z) 8192 b′ → SettledTo F b f (f + z) b′
+  free-step-by k z b′ size len t e w = rw size (free-step k b′ len t e (rw size at w))
+
+  pub level-fits : (k : ℕ) → freeIn b f ≡ true → freeOrder F (freeIn b) f ≡ some k → (f + 2 ^ k ≤ F) × (k ≤ 10) × (1 ≤ 2 ^ k)
+  level-fits k t e = let x = block-here k t e in (block-end F (freeIn b) k f (x .maximal) (x .starts), x .maximal .small, pow-pos k)
+
+-- the pass
+
+pub record Sofar (F : ℕ) (b₀ b : List ℕ) (f : ℕ) : Type 0 where
+  pub fits : f ≤ F
+  pub len : length b ≡ length b₀
+  pub words : (g : ℕ) → g < f → getD b g 0 ≡ frameWord F (ownersOf b₀) g
+  pub rest : (g : ℕ) → f ≤ g → getD b g 0 ≡ getD b₀ g 0
+  pub edge : Edge F (freeIn b) f
+  pub same : (g : ℕ) → g < F → ownersOf b g ≡ ownersOf b₀ g
+
+pub at-start : (F : ℕ) (b : List ℕ) → Sofar F b b 0
+at-start F b = record { fits = zero-le; len = refl; words = λ g h. absurd (omega arith); rest = λ g h. refl; edge = edge-zero F (freeIn b); same = λ g h. refl }
+
+pub one-turn : (F : ℕ) (b₀ b : List ℕ) (f r : ℕ) (b′ : List ℕ) → Sofar F b₀ b f → length b′ ≡ length b → SettledTo F b f r b′ → Sofar F b₀ b′ r
+unfolding ownersOf freeIn
+one-turn F b₀ b f r b′ s len w =
+    record {
+      fits = w .inside;
+      len = len ∙ s .len;
+      words = λ g lt. by-dec (decLt g f)
+          (λ low. w .below g low ∙ s .words g low)
+          (λ high. w .words g (omega arith) lt ∙ word-ext F (ownersOf b) (ownersOf b₀) (s .same) g);
+      rest = λ g le. w .above g le ∙ s .rest g (omega (arith, w .on));
+      edge = edge-ext F (freeIn b) (freeIn b′) (λ g h. free-same (ownersOf b) (ownersOf b′) g (sym (back g h))) r (w .edge);
+      same = λ g h. back g h ∙ s .same g h;
+    }
+  where
+    back : (g : ℕ) → g < F → ownersOf b′ g ≡ ownersOf b g
+    back g h =
+        by-dec (decLt g f)
+        (λ low. ap ownerOf (w .below g low))
+        (λ high. by-dec (decLt g r)
+        (λ lt. ap ownerOf (w .words g (omega arith) lt) ∙ owner-back F (ownersOf b) g h (owners-small b g))
+        (λ ge. ap ownerOf (w .above g (omega arith))))
+
+pub at-end : (F : ℕ) (b₀ b : List ℕ) (f : ℕ) (b′ : List ℕ) → length b₀ ≡ 4096 → F ≤ f → Sofar F b₀ b f → length b′ ≡ length b → Filled b F 4096 65535 b′ → b′ ≡ frameWords F (ownersOf b₀)
+unfolding frameWords
+at-end F b₀ b f b′ l0 ge s len w =
+    is-tabulate b′ 4096 (frameWord F (ownersOf b₀)) 0 (len ∙ s .len ∙ l0) (λ g h.
+    by-dec (decLt g F)
+    (λ low. w .below g low ∙ s .words g (omega arith))
+    (λ high. w .inside g (omega arith) h ∙ sym (high-word F (ownersOf b₀) g (omega arith))))
+
+-- the block that grows
+
+module _ (F : ℕ) (free : ℕ → Bool) (f : ℕ) (edge : Edge F free f) where
+  pub start-zero : f < F → free f ≡ true → around F free f 0 ≡ true
+  start-zero h t = free-around F free f h t
+
+  -- no larger block: this is the freeOrder
+  pub no-more : (k : ℕ) → k ≤ 10 → around F free f k ≡ true → (k < 10 → around F free f (k + 1) ≡ true → ⊥) → freeOrder F free f ≡ some k
+  no-more k h t stop =
+      maximal-order F free k f (record {
+        small = h;
+        whole = t;
+        alone = λ m km hm. by-test (around F free f m)
+            (λ y. absurd (stop (omega arith) (smaller F free (k + 1) m f (omega arith) y)))
+            (λ y. y);
+      })
+
+  module _ (k z : ℕ) (size : z ≡ 2 ^ k) (h : k < 10) where
+    twice : z + z ≡ 2 ^ (k + 1)
+    twice = rw size (double k)
+
+    pub odd-start : (f % (z + z) ≡ 0 → ⊥) → around F free f (k + 1) ≡ true → ⊥
+    odd-start n t = n (rw twice (start-mod (k + 1) f (edge .starts (k + 1) (omega arith) t)))
+
+    pub past-end : F < f + (z + z) → around F free f (k + 1) ≡ true → ⊥
+    past-end n t =
+        let st = edge .starts (k + 1) (omega arith) t in
+        let d = twice in
+        let pos : 0 < 2 ^ (k + 1) = pow-pos (k + 1) in
+        let last = around-at F free (k + 1) f t (f + (2 ^ (k + 1) - 1)) (block-in (k + 1) f _ (omega arith) (omega arith)) in
+        omega (arith, last .0)
+
+    pub not-clear : allFrom (f + (z + z) - (f + z)) (f + z) free ≡ false → around F free f (k + 1) ≡ true → ⊥
+    not-clear n t =
+        let st = edge .starts (k + 1) (omega arith) t in
+        let d = twice in
+        true-false (allFrom (f + (z + z) - (f + z)) (f + z) free)
+        (at-allFrom _ _ free (λ g lo hi. around-at F free (k + 1) f t g (block-in (k + 1) f g (omega arith) (omega arith)) .1)) n
+
+    pub grown : around F free f k ≡ true → f % (z + z) ≡ 0 → f + (z + z) ≤ F
+        → allFrom (f + (z + z) - (f + z)) (f + z) free ≡ true → around F free f (k + 1) ≡ true
+    grown t md room clear =
+        let d = twice in
+        let r0 : f % 2 ^ (k + 1) ≡ 0 = rw (sym d) md in
+        let st : startOf (k + 1) f ≡ f = mod-start (k + 1) f r0 in
+        let st0 : startOf k f ≡ f = finer k (k + 1) f (omega arith) st in
+        at-around F free (k + 1) f (λ g e.
+        let r = in-block (k + 1) f g e in
+        let lo = r .0 in
+        let hi = r .1 in
+        by-dec (decLt g (f + z))
+        (λ low. around-at F free k f t g (block-in k f g (omega arith) (omega arith)))
+        (λ high. (omega arith, allFrom-at _ _ free clear g (omega arith) (omega arith))))
+
+-- one step of the check
+
+module _ (F : ℕ) (b : List ℕ) (f : ℕ) (h : f < F) (edge : Edge F (freeIn b) f) where
+  pub check-held : (ownerOf (getD b f 0) ≡ 0 → ⊥) → Checked F b f (f + 1)
+  check-held n = record { good = λ z. held-step F b f h edge n; bad = λ z. absurd (omega arith) }
+
+  module _ (k : ℕ) (t : freeIn b f ≡ true) (e : freeOrder F (freeIn b) f ≡ some k) where
+    pub check-first : (getD b f 0 ≡ 16384 + k → ⊥) → Checked F b f 0
+    check-first n = let x = block-here F b f h edge k t e in record { good = λ z. absurd (z refl); bad = λ z. (f, h, λ q. n (q ∙ x .first)) }
+
+    module _ (z : ℕ) (size : z ≡ 2 ^ k) where
+      pub check-others : allFrom (f + z - (f + 1)) (f + 1) (sameIn b 8192) ≡ false → Checked F b f 0
+      unfolding sameIn
+      check-others n =
+          let x = block-here F b f h edge k t e in
+          let w = level-fits F b f h edge k t e in
+          record { good = λ q. absurd (q refl); bad = λ q. search-wrong x (w .0) }
+        where
+          search-wrong : BlockHere F b f h edge k → f + 2 ^ k ≤ F → (g : ℕ) × (g < F) × (getD b g 0 ≡ frameWord F (ownersOf b) g → ⊥)
+          search-wrong x fits =
+              let r = some-fails (f + z - (f + 1)) (f + 1) (sameIn b 8192) n in
+              let lo = r .1 in
+              let hi = r .2 in
+              (r .0, omega arith, λ q. true-false (sameIn b 8192 (r .0)) (eq-eqb _ _ (q ∙ x .others (r .0) (omega arith) (omega arith))) (r .3))
+
+      pub check-block : getD b f 0 ≡ 16384 + k → allFrom (f + z - (f + 1)) (f + 1) (sameIn b 8192) ≡ true → Checked F b f (f + z)
+      unfolding sameIn
+      check-block first others =
+          let x = block-here F b f h edge k t e in
+          let w = level-fits F b f h edge k t e in
+          let room = w .0 in
+          let some-z = w .2 in
+          record {
+            good = λ q. record {
+              on = omega arith;
+              inside = omega arith;
+              words = λ g lo hi. by-dec (ℕ-discrete g f)
+                  (λ gf. rw gf (first ∙ sym (x .first)))
+                  (λ ne. eqb-true _ _ (allFrom-at _ _ (sameIn b 8192) others g (omega arith) (omega arith)) ∙ sym (x .others g (omega arith) (omega arith)));
+              below = λ g lt. refl;
+              above = λ g le. refl;
+              edge = rw size (edge-block F (freeIn b) k f (x .maximal) (x .starts));
+            };
+            bad = λ q. absurd (omega arith);
+          }
+
+-- a wrong word
+pub lawful-wrong : (F : ℕ) (b : List ℕ) → F ≤ 4096 → (g : ℕ) × (g < F) × (getD b g 0 ≡ frameWord F (ownersOf b) g → ⊥) → false ≡ lawful F b
+lawful-wrong F b small w = let lt = w .1 in lawful-no F b (λ l. w .2 (l .words (w .0) (omega arith)))
+
+module _ (F : ℕ) (b : List ℕ) where
+  pub lawful-tail : (f : ℕ) → length b ≡ 4096 → 1 ≤ F → F ≤ 4096 → F ≤ f → Sofar F b b f → allFrom (4096 - F) F (sameIn b 65535) ≡ lawful F b
+  unfolding sameIn
+  lawful-tail f len pos small ge s =
+      by-test (allFrom (4096 - F) F (sameIn b 65535))
+      (λ t. t ∙ lawful-yes F b (record {
+        len = len;
+        pos = pos;
+        small = small;
+        words = λ g h. by-dec (decLt g F)
+            (λ low. s .words g (omega arith))
+            (λ high. eqb-true _ _ (allFrom-at (4096 - F) F (sameIn b 65535) t g (omega arith) (omega arith)) ∙ sym (high-word F (ownersOf b) g (omega arith)));
+      }))
+      (λ t. t ∙ lawful-no F b (λ w. true-false (allFrom (4096 - F) F (sameIn b 65535))
+      (at-allFrom (4096 - F) F (sameIn b 65535) (λ g lo hi. eq-eqb _ _ (w .words g (omega arith) ∙ high-word F (ownersOf b) g lo))) t))
+
+-- a buffer of zeros, settled, is that of a pool whose frames are all free
+pub fresh-words : (F : ℕ) (b b1 b2 : List ℕ) → F ≤ 4096 → Filled b 0 4096 0 b1 → b2 ≡ frameWords F (ownersOf b1) → b2 ≡ frameWords F (λ g. 0)
+unfolding ownersOf
+fresh-words F b b1 b2 small w e = e ∙ words-ext F (ownersOf b1) (λ g. 0) (λ g h. ap ownerOf (w .inside g zero-le (omega arith)) ∙ owner-low 0 (omega arith))

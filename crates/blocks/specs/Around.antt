@@ -1,0 +1,23 @@
+-- The free block around a frame, found from the frame: a faster description of what Blocks and FrameWords define, as the laws of AroundLaws say.
+use mathlib.Core.Bool.{Bool, true, false, _&&_}
+use mathlib.Core.Option.{Option, none, some}
+use Prim.Native.Nat.{ℕ, _+_, _*_, _/_, _^_}
+use lib.Dec.{leb, eqb}
+use Rattle.words.specs.Searches.{allFrom, largest}
+
+-- the first frame of the block of order k that holds frame f
+unfoldable pub startOf : ℕ → ℕ → ℕ
+startOf k f = f / 2 ^ k * 2 ^ k
+
+-- the block of order k around frame f lies in the pool of F frames and is wholly free
+unfoldable pub around : ℕ → (ℕ → Bool) → ℕ → ℕ → Bool
+around F free f k = leb (startOf k f + 2 ^ k) F && allFrom (2 ^ k) (startOf k f) free
+
+-- the order of the largest wholly free block around f
+unfoldable pub freeOrder : ℕ → (ℕ → Bool) → ℕ → Option ℕ
+freeOrder F free f = largest 10 (around F free f)
+
+-- the word of a free frame f whose free block has the order given
+unfoldable pub orderWord : ℕ → Option ℕ → ℕ
+orderWord f none = 8192
+orderWord f (some k) = elim (eqb (startOf k f) f) [ true ↦ 16384 + k | false ↦ 8192 ]

@@ -1,0 +1,7 @@
+pub mod Blocks
+pub mod FrameWords
+pub mod Choice
+pub mod Owners
+pub mod Calls
+pub mod Around
+pub mod Passes

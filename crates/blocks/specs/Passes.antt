@@ -1,0 +1,122 @@
+-- What the inner functions of `frames` promise: each a step of a pass over the buffer, said of single words.
+use mathlib.Core.Path.{_≡_}
+use mathlib.Core.Bool.{Bool, true, false, _&&_}
+use mathlib.Core.List.{List}
+use mathlib.Core.Option.{Option, none, some}
+use Prim.Native.Nat.{ℕ, _+_, _-_, _^_, _<_, _≤_}
+use lib.Dec.{leb, ltb, eqb}
+use lib.ListN.{length, getD}
+use Rattle.words.specs.Counts.{one-if}
+use Rattle.words.specs.Searches.{anyFrom, largest}
+use Rattle.blocks.specs.declared.Block.{Block}
+use Rattle.blocks.specs.declared.Bound.{Bound}
+use Rattle.blocks.specs.Blocks.{block, inBlock, freeBlock}
+use Rattle.blocks.specs.FrameWords.{ownersOf, freeIn, frameWord, frameWords}
+use Rattle.blocks.specs.Choice.{lowest}
+use Rattle.blocks.specs.Owners.{cleared}
+use Rattle.blocks.specs.Around.{startOf, around}
+
+-- Settling and checking, block after block
+
+-- no wholly free block holds f and a frame below it
+pub record Edge (F : ℕ) (free : ℕ → Bool) (f : ℕ) : Type 0 where
+  pub starts : (m : ℕ) → m ≤ 10 → around F free f m ≡ true → startOf m f ≡ f
+
+-- the words from s up to e, e left out, are v, and every other is as it was
+pub record Filled (b : List ℕ) (s e v : ℕ) (b′ : List ℕ) : Type 0 where
+  pub inside : (g : ℕ) → s ≤ g → g < e → getD b′ g 0 ≡ v
+  pub below : (g : ℕ) → g < s → getD b′ g 0 ≡ getD b g 0
+  pub above : (g : ℕ) → e ≤ g → getD b′ g 0 ≡ getD b g 0
+
+-- the words from f up to r are those that the owners ask for, and every other is as it was; a free block starts at r or none holds it
+pub record SettledTo (F : ℕ) (b : List ℕ) (f r : ℕ) (b′ : List ℕ) : Type 0 where
+  pub on : f < r
+  pub inside : r ≤ F
+  pub words : (g : ℕ) → f ≤ g → g < r → getD b′ g 0 ≡ frameWord F (ownersOf b) g
+  pub below : (g : ℕ) → g < f → getD b′ g 0 ≡ getD b g 0
+  pub above : (g : ℕ) → r ≤ g → getD b′ g 0 ≡ getD b g 0
+  pub edge : Edge F (freeIn b) r
+
+-- the frame after f's block where its words are lawful, or 0 where a word below F is not
+pub record Checked (F : ℕ) (b : List ℕ) (f r : ℕ) : Type 0 where
+  pub good : (r ≡ 0 → ⊥) → SettledTo F b f r b
+  pub bad : r ≡ 0 → (g : ℕ) × (g < F) × (getD b g 0 ≡ frameWord F (ownersOf b) g → ⊥)
+
+-- the word at g is v
+unfoldable pub sameIn : List ℕ → ℕ → ℕ → Bool
+sameIn b v g = eqb (getD b g 0) v
+
+-- Choosing: the orders in the sequence in which they are tried, so that the first that has a free block decides
+
+-- the largest order, at most 10, whose size is at most the pages left
+unfoldable pub orderWithin : ℕ → Option ℕ
+orderWithin left = largest 10 (λ i. leb (2 ^ i) left)
+
+-- from top up to limit, then from below top down to 0
+unfoldable pub orderAt : ℕ → ℕ → ℕ → ℕ
+orderAt limit top t = elim (leb (top + t) limit) [ true ↦ top + t | false ↦ limit - t ]
+
+unfoldable pub least : ℕ → ℕ → ℕ
+least a b = elim (ltb a b) [ true ↦ a | false ↦ b ]
+
+-- a block, or order 11 for none
+unfoldable pub asBlock : Option Block → Block
+asBlock none = block 11 0
+asBlock (some b) = b
+
+-- no free block of order k starts below f
+pub record Clear (F : ℕ) (free : ℕ → Bool) (k f : ℕ) : Type 0 where
+  pub none-at : (s : ℕ) → s < f → freeBlock F free k s ≡ false
+
+-- what earlier searches have shown: no free block has an order above the limit, and none of that order starts below `from`
+pub record Searched (F : ℕ) (free : ℕ → Bool) (x : Bound) : Type 0 where
+  pub above : (k : ℕ) → x .limit < k → k ≤ 10 → lowest F free k ≡ none
+  pub before : Clear F free (x .limit) (x .from .0)
+
+-- where the scan for order k starts
+unfoldable pub scanFrom : Bound → ℕ → ℕ
+scanFrom x k = elim (eqb k (x .limit)) [ true ↦ x .from .0 | false ↦ 0 ]
+
+-- what is known once block b was taken for so many pages left: a block below the order that fits is the first of the largest order that is left
+unfoldable pub boundAfter : Bound → Block → ℕ → Bound
+boundAfter x b left = elim (orderWithin left) [ none ↦ x | some w ↦ elim (ltb (b .order) w) [ true ↦ record { limit = b .order; from = b .start } | false ↦ x ] ]
+
+-- Taking
+
+-- the words from s up to e are v, v + 1, .., and every other is as it was
+pub record CountedUp (b : List ℕ) (s e v : ℕ) (b′ : List ℕ) : Type 0 where
+  pub inside : (g : ℕ) → s ≤ g → g < e → getD b′ g 0 ≡ v + (g - s)
+  pub below : (g : ℕ) → g < s → getD b′ g 0 ≡ getD b g 0
+  pub above : (g : ℕ) → e ≤ g → getD b′ g 0 ≡ getD b g 0
+
+-- the upper halves of orders i up to j, j left out, of the block at s have their first words
+pub record Halved (b : List ℕ) (s i j : ℕ) (b′ : List ℕ) : Type 0 where
+  pub halves : (m : ℕ) → i ≤ m → m < j → getD b′ (s + 2 ^ m) 0 ≡ 16384 + m
+  pub others : (g : ℕ) → ((m : ℕ) → i ≤ m → m < j → g ≡ s + 2 ^ m → ⊥) → getD b′ g 0 ≡ getD b g 0
+
+-- the block of order i at s begins a free block that the words say
+pub record Begins (F : ℕ) (b : List ℕ) (s i : ℕ) : Type 0 where
+  pub inside : s < F
+  pub top : ℕ
+  pub below : i ≤ top
+  pub first : getD b s 0 ≡ 16384 + top
+
+-- the owners when the block of order i at s is given to o, o + 1, ..
+unfoldable pub handed : (ℕ → ℕ) → ℕ → ℕ → ℕ → ℕ → ℕ
+handed owner i s o g = elim (inBlock i s g) [ true ↦ o + (g - s) | false ↦ owner g ]
+
+-- Freeing
+
+-- the words below m are without the n owners from o on, and every other is as it was
+pub record ClearedTo (b : List ℕ) (o n m : ℕ) (b′ : List ℕ) : Type 0 where
+  pub below : (g : ℕ) → g < m → getD b′ g 0 ≡ cleared o n (getD b g 0)
+  pub above : (g : ℕ) → m ≤ g → getD b′ g 0 ≡ getD b g 0
+
+-- the mark of owner w is 1 if it is one of the n owners from o on, and the other marks are as they were
+pub record MarkedOne (o n w : ℕ) (m m′ : List ℕ) : Type 0 where
+  pub this : (t : ℕ) → t < n → w ≡ o + t → getD m′ t 0 ≡ 1
+  pub other : (t : ℕ) → t < n → (w ≡ o + t → ⊥) → getD m′ t 0 ≡ getD m t 0
+
+-- the mark of each of the n owners from o on is 1 if it holds a frame below m, else 0
+pub record MarkedTo (b : List ℕ) (o n m : ℕ) (marks : List ℕ) : Type 0 where
+  pub mark : (t : ℕ) → t < n → getD marks t 0 ≡ one-if (anyFrom m 0 (λ g. eqb (ownersOf b g) (o + t)))

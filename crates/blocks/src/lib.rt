@@ -1,0 +1,35 @@
+// The frame pool's types. Definitions and laws stand in specs/ and proofs/; the code is the crate `frames`.
+
+// A frame number. A virtual page number never stands in its place.
+pub struct Frame(pub u32);
+
+// A block of 2 to the power `order` frames from `start` on.
+pub struct Block {
+    pub start: Frame,
+    pub order: u32,
+}
+
+// What earlier searches have shown: no free block has an order above `limit`, and none of that order starts below `from`.
+pub struct Bound {
+    pub limit: u32,
+    pub from: Frame,
+}
+
+// An answer as document 01 counts it: its number, first and second value.
+pub struct Outcome {
+    pub number: u32,
+    pub first: u32,
+    pub second: u32,
+}
+
+// What a call on the pool answers: its first value, or why it is refused.
+pub enum Reply {
+    Done(u32),
+    WrongLength,
+    Unlawful,
+    WrongPoolSize,
+    WrongSpan,
+    AlreadyHeld,
+    NotHeld,
+    TooFewFrames,
+}

@@ -1,0 +1,19 @@
+use Rattle.frames.proofs.buffer.owner_of.Statement.{statement}
+use Rattle.frames.proofs.buffer.owner_of.Tie as tie
+use Rattle.frames.proofs.buffer.owner_of.Reads as reads
+use Rattle.frames.proofs.buffer.owner_of.Lts as lts
+use mathlib.Core.Path.{_≡_, refl, sym, ap, _∙_}
+use Prim.Native.Nat.{ℕ, _≤_, _<_, _-_, _+_, _^_}
+use native.Mathlib.Omega.{arith}
+use Rattle.blocks.proofs.WordLaws.{owner-low, owner-high}
+
+-- src/buffer.rt:14:9
+returns : tie.Need-returns
+returns c = sym (owner-low _ (c .if1 .taken))
+
+-- src/buffer.rt:10:1
+returns-2 : tie.Need-returns-2
+returns-2 c = sym (owner-high _ (c .if1 .left))
+
+pub owner-of-spec : {M : Type 1} → statement M
+owner-of-spec = tie.close (tie.spec returns returns-2)

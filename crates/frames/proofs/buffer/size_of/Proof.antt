@@ -1,0 +1,20 @@
+use borrow.Author.Needs.{needs}
+use Rattle.frames.proofs.buffer.size_of.Statement.{statement}
+use Rattle.frames.proofs.buffer.size_of.Tie as tie
+use Rattle.frames.proofs.buffer.size_of.Reads as reads
+use Rattle.frames.proofs.buffer.size_of.Lts as lts
+use mathlib.Core.Path.{_≡_, refl, sym, ap, _∙_}
+use Prim.Native.Nat.{ℕ, _≤_, _<_, _-_, _+_, _^_}
+use native.Mathlib.Omega.{arith}
+use Rattle.blocks.proofs.AroundLaws.{shift-one}
+
+-- src/buffer.rt:24:5
+shl-result : tie.Need-shl-result
+shl-result c = search needs
+
+-- src/buffer.rt:20:1
+returns : tie.Need-returns
+returns c = shift-one 32 _ (c .pre) (omega arith)
+
+pub size-of-spec : {M : Type 1} → statement M
+size-of-spec = tie.close (tie.spec shl-result returns)

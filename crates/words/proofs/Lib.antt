@@ -1,0 +1,6 @@
+pub mod Cases
+pub mod TableLaws
+pub mod CountLaws
+pub mod SearchLaws
+pub mod RefusalLaws
+pub mod WrappingLaws

@@ -1,0 +1,5 @@
+pub mod Tables
+pub mod Counts
+pub mod Searches
+pub mod Refusals
+pub mod Wrapping
