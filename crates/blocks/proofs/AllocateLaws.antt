@@ -1,13 +1,12 @@
 -- The loop that takes block after block: the whole answer is what is taken so far and the answer for the rest.
 use mathlib.Core.Path.{_≡_, refl, ap, _∙_, sym, fun-ext}
-use mathlib.Core.Bool.{Bool, true, false}
+use mathlib.Core.Bool.{Bool, true}
 use mathlib.Core.List.{List, [], _∷_, _++_, append-assoc, append-nil}
-use mathlib.Core.Option.{Option, none, some}
+use mathlib.Core.Option.{Option, some}
 use Prim.Native.Nat.{ℕ, zero, suc, _+_, _/_, _^_, _-_, _<_, _≤_, zero-le}
 use native.Mathlib.Nat.{add-zero, min-eq-left}
 use native.Mathlib.Decide.{decLt, ℕ-discrete}
 use native.Mathlib.Omega.{arith}
-use lib.Dec.{eqb}
 use lib.ListN.{length, getD, take, length-take, length-append, List·getD-append}
 use lib.Seq.{ext-getD, getD-take, getD-append-add, take-all}
 use lib.Pow.{pow-pos}
@@ -27,7 +26,7 @@ use Rattle.blocks.specs.Calls.{Taken}
 use Rattle.blocks.specs.Around.{startOf}
 use Rattle.blocks.specs.Passes.{asBlock, Searched, boundAfter, CountedUp, Begins, handed}
 use Rattle.blocks.proofs.AroundLaws.{in-block}
-use Rattle.blocks.proofs.WordLaws.{owners-small, Lawful, lawful-is, lawful-yes, lawful-table, owners-high, owners-again, table-lawful, block-word}
+use Rattle.blocks.proofs.WordLaws.{owners-small, lawful-is, lawful-yes, lawful-table, owners-high, owners-again, table-lawful, block-word}
 use Rattle.blocks.proofs.ChoiceLaws.{Took, Taking, taking, one, end, took-free, took-start, took-count, fuel}
 use Rattle.blocks.proofs.SearchedLaws.{known-after}
 use Rattle.blocks.proofs.TakeLaws.{handed-in, handed-out, free-after}

@@ -1,16 +1,15 @@
 -- Blocks of frames: f and g are in one block of order k when f / 2 ^ k ≡ g / 2 ^ k. All laws go by that.
 use mathlib.Core.Path.{_≡_, refl, ap, _∙_, sym}
 use mathlib.Core.Bool.{Bool, true, false, not}
-use mathlib.Core.Option.{Option, none, some}
+use mathlib.Core.Option.{Option, some}
 use Prim.Native.Nat.{ℕ, suc, _+_, _*_, _/_, _%_, _^_, _-_, _<_, _≤_, zero-le}
 use native.Mathlib.Nat.{div-add-mod', mod-lt, div-one, pow-suc, mul-assoc, mod-eq-of-lt, one-mul}
-use native.Mathlib.Decide.{decLt, decLe, ℕ-discrete}
+use native.Mathlib.Decide.{decLe}
 use native.Mathlib.Omega.{arith}
 use lib.Arith.{digits-div}
-use lib.Dec.{eqb, leb, ltb}
 use lib.Pow.{pow-pos, pow-mono, shr-shr, shl-shr, pow-add}
 use borrow.Author.Tests.{leb-true, le-leb, ltb-true, lt-ltb, not-true}
-use Rattle.words.specs.Searches.{allFrom, largest}
+use Rattle.words.specs.Searches.{largest}
 use Rattle.words.proofs.Cases.{by-test, by-dec, true-false, and-true, true-and}
 use Rattle.words.proofs.SearchLaws.{allFrom-at, at-allFrom, largest-is, Largest, greatest, nothing, largest-ext, largest-unique}
 use Rattle.blocks.specs.Blocks.{inBlock}

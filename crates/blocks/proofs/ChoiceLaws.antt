@@ -15,13 +15,13 @@ use borrow.Author.Tests.{leb-true, le-leb}
 use Rattle.words.specs.Tables.{tabFrom}
 use Rattle.words.specs.Counts.{count, one-if}
 use Rattle.words.specs.Searches.{largest, firstFrom, is-some}
-use Rattle.words.proofs.Cases.{by-test, by-dec, true-false, none-some, and-true, true-and}
+use Rattle.words.proofs.Cases.{by-dec, true-false, and-true, true-and}
 use Rattle.words.proofs.TableLaws.{length-tabFrom, getD-tabFrom}
 use Rattle.words.proofs.CountLaws.{count-or, count-range, count-some}
 use Rattle.words.proofs.SearchLaws.{First, found, missing, firstFrom-is, first-ext, Largest, greatest, nothing, largest-is, largest-ext, is-some-at, some-is}
 use Rattle.blocks.specs.declared.Block.{Block}
 use Rattle.blocks.specs.Blocks.{block, inBlock, freeBlock}
-use Rattle.blocks.specs.Choice.{lowest, serving, isServed, orderFor, cutAt, takeFrom, takeOrder, takeBlock, without, takeBlocks, framesOf, blocksFor, framesFor}
+use Rattle.blocks.specs.Choice.{lowest, serving, isServed, orderFor, cutAt, takeFrom, takeOrder, takeBlock, without, takeBlocks, framesOf}
 use Rattle.blocks.specs.Around.{startOf}
 use Rattle.blocks.proofs.AroundLaws.{finer, coarser, in-block, block-in, inBlock-is, is-inBlock, not-inBlock, around-at, free-around, without-free, without-out}
 use Rattle.blocks.proofs.FreeBlockLaws.{BlockAt, free-block-at, at-free-block, in-block-at, free-block-ext}

@@ -1,18 +1,15 @@
 -- The free blocks of Blocks are the maximal wholly free blocks around their frames.
 use mathlib.Core.Path.{_≡_, refl, ap, _∙_, sym}
-use mathlib.Core.Bool.{Bool, true, false, not, _&&_}
-use mathlib.Core.Option.{Option, none, some}
-use Prim.Native.Nat.{ℕ, suc, _+_, _/_, _%_, _^_, _-_, _<_, _≤_, zero-le}
+use mathlib.Core.Bool.{Bool, true, not}
+use Prim.Native.Nat.{ℕ, suc, _+_, _/_, _^_, _-_, _<_, _≤_, zero-le}
 use native.Mathlib.Decide.{decLe}
 use native.Mathlib.Omega.{arith}
-use lib.Dec.{eqb, leb}
 use lib.Pow.{pow-pos}
 use borrow.Author.Tests.{leb-true, le-leb, eqb-true, eq-eqb, not-true}
-use Rattle.words.specs.Searches.{allFrom, anyFrom}
 use Rattle.words.proofs.Cases.{by-test, by-dec, true-false, and-true, true-and}
-use Rattle.words.proofs.SearchLaws.{allFrom-at, at-allFrom, any-at, at-any, any-none}
+use Rattle.words.proofs.SearchLaws.{allFrom-at, at-allFrom, any-at, at-any}
 use Rattle.blocks.specs.Blocks.{isBlock, liesIn, whollyFree, inLarger, freeBlock}
-use Rattle.blocks.specs.Around.{startOf, around, freeOrder}
+use Rattle.blocks.specs.Around.{startOf, around}
 use Rattle.blocks.proofs.AroundLaws.{mod-start, start-mod, start-start, start-in, coarser, in-block, block-in, around-at, at-around, around-same, around-ext, Maximal, order-here, maximal-same}
 
 module _ (F : ℕ) (free : ℕ → Bool) where

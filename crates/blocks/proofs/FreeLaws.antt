@@ -1,25 +1,25 @@
 -- Counting free frames, freeing, and that freeing undoes an allocation.
 use mathlib.Core.Path.{_≡_, refl, ap, _∙_, sym}
-use mathlib.Core.Bool.{Bool, true, false, _&&_}
+use mathlib.Core.Bool.{Bool, true, false}
 use mathlib.Core.List.{List, [], _∷_}
 use Prim.Native.Nat.{ℕ, zero, suc, _+_, _-_, _<_, _≤_, zero-le}
 use native.Mathlib.Nat.{not-suc-le-zero, add-zero, zero-add}
 use native.Mathlib.Decide.{decLt, decLe, ℕ-discrete}
 use native.Mathlib.Omega.{arith}
-use lib.Dec.{eqb, leb, ltb}
+use lib.Dec.{eqb, ltb}
 use lib.ListN.{length, getD, set}
 use lib.Seq.{getD-set-same, getD-set-other}
-use borrow.Author.Tests.{leb-true, ltb-true, eqb-true, eq-eqb, ne-eqb, le-leb, lt-leb, lt-ltb, le-ltb}
+use borrow.Author.Tests.{leb-true, ltb-true, eqb-true, eq-eqb, ne-eqb, le-leb, lt-ltb, le-ltb}
 use Rattle.words.specs.Counts.{count, one-if}
 use Rattle.words.specs.Searches.{anyFrom, allFrom}
 use Rattle.words.proofs.Cases.{by-test, by-dec, true-false, and-true, true-and}
 use Rattle.words.proofs.CountLaws.{one-if-le}
 use Rattle.words.proofs.SearchLaws.{at-any, any-none, any-more, allFrom-at, at-allFrom, some-fails}
-use Rattle.blocks.specs.FrameWords.{ownerOf, ownersOf, freeOf, freeIn, lawful, frameWords}
+use Rattle.blocks.specs.FrameWords.{ownerOf, ownersOf, freeOf, freeIn, frameWords}
 use Rattle.blocks.specs.Choice.{framesFor, blocksFor}
 use Rattle.blocks.specs.Owners.{put, give, inSpan, cleared, freed, holds}
 use Rattle.blocks.specs.Passes.{ClearedTo, MarkedOne, MarkedTo, sameIn}
-use Rattle.blocks.proofs.WordLaws.{owner-low, owner-high, owners-small, free-zero, Lawful, lawful-is, lawful-table, owners-high, owners-again, words-ext}
+use Rattle.blocks.proofs.WordLaws.{owner-low, owner-high, owners-small, free-zero, Lawful, lawful-table, owners-high, owners-again, words-ext}
 use Rattle.blocks.proofs.ChoiceLaws.{Good, takes-good, takes-all}
 use Rattle.blocks.proofs.AllocateLaws.{put-same, put-other}
 
@@ -89,6 +89,19 @@ clear-owner o n w pos room =
     let same : w ≡ cleared o n w = clear-out o n w (λ lo hi. omega arith) in
     let none : 0 ≡ cleared o n 0 = clear-out o n 0 (λ lo hi. omega arith) in
     ap ownerOf (sym same) ∙ z ∙ none ∙ ap (cleared o n) (sym z))
+
+-- freeing frees no owner outside the span, and holds nothing that was free
+
+pub freed-small : (owner : ℕ → ℕ) (o n g : ℕ) → owner g ≤ 4096 → freed owner o n g ≤ 4096
+unfolding freed
+freed-small owner o n g h =
+    by-test (inSpan o n (owner g))
+    (λ t. let z = cleared-in o n (owner g) t in omega arith)
+    (λ t. let z = cleared-out o n (owner g) t in omega arith)
+
+pub freed-zero : (owner : ℕ → ℕ) (o n g : ℕ) → 1 ≤ o → owner g ≡ 0 → freed owner o n g ≡ 0
+unfolding freed
+freed-zero owner o n g pos z = ap (cleared o n) z ∙ sym (clear-out o n 0 (λ lo hi. omega arith))
 
 -- the pass that clears
 

@@ -7,3 +7,5 @@ pub mod SearchedLaws
 pub mod TakeLaws
 pub mod AllocateLaws
 pub mod FreeLaws
+pub mod CallLaws
+pub mod EdgeCases

@@ -1,6 +1,6 @@
 -- The first order tried that has a free block gives the block that the rule takes, and what is known after it.
 use mathlib.Core.Path.{_≡_, refl, ap, _∙_, sym}
-use mathlib.Core.Bool.{Bool, true, false, _&&_}
+use mathlib.Core.Bool.{Bool, true, false}
 use mathlib.Core.List.{List}
 use mathlib.Core.Option.{Option, none, some}
 use Prim.Native.Nat.{ℕ, _+_, _^_, _-_, _<_, _≤_, zero-le}
@@ -11,7 +11,7 @@ use lib.ListN.{getD}
 use lib.Pow.{pow-mono}
 use borrow.Author.Tests.{leb-true, le-leb, lt-leb, eqb-true, eq-eqb, ne-eqb, lt-ltb, le-ltb, ltb-true}
 use Rattle.words.specs.Searches.{largest, firstFrom, is-some}
-use Rattle.words.proofs.Cases.{by-test, by-dec, true-false, none-some, not-there, and-true}
+use Rattle.words.proofs.Cases.{by-test, by-dec, true-false, none-some, not-there}
 use Rattle.words.proofs.SearchLaws.{First, found, missing, firstFrom-is, first-unique, first-none, Largest, greatest, nothing, largest-is, largest-unique, largest-none, some-is, none-is}
 use Rattle.blocks.specs.declared.Block.{Block}
 use Rattle.blocks.specs.declared.Bound.{Bound}
@@ -22,7 +22,7 @@ use Rattle.blocks.specs.Around.{startOf, around}
 use Rattle.blocks.specs.Passes.{orderWithin, orderAt, least, asBlock, Clear, Searched, scanFrom, boundAfter}
 use Rattle.blocks.proofs.AroundLaws.{double, around-at, at-around, without-free}
 use Rattle.blocks.proofs.FreeBlockLaws.{BlockAt, free-block-at, at-free-block, in-block-at}
-use Rattle.blocks.proofs.WordLaws.{Lawful, lawful-is, word-block, no-block}
+use Rattle.blocks.proofs.WordLaws.{lawful-is, word-block, no-block}
 use Rattle.blocks.proofs.ChoiceLaws.{lowest-at, at-lowest, serving-at, at-serving, at-served, takeOrder-eq}
 
 -- the order that fits the pages left

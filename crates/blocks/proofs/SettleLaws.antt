@@ -2,11 +2,10 @@
 use mathlib.Core.Path.{_≡_, refl, ap, _∙_, sym}
 use mathlib.Core.Bool.{Bool, true, false}
 use mathlib.Core.List.{List}
-use mathlib.Core.Option.{Option, none, some}
+use mathlib.Core.Option.{some}
 use Prim.Native.Nat.{ℕ, suc, _+_, _/_, _%_, _^_, _-_, _<_, _≤_, zero-le}
 use native.Mathlib.Decide.{decLt, decLe, ℕ-discrete}
 use native.Mathlib.Omega.{arith}
-use lib.Dec.{eqb}
 use lib.ListN.{length, getD, set}
 use lib.Seq.{getD-set-same, getD-set-other}
 use lib.Pow.{pow-pos}
@@ -19,7 +18,7 @@ use Rattle.blocks.specs.FrameWords.{ownerOf, ownersOf, freeIn, lawful, f
 use Rattle.blocks.specs.Around.{startOf, around, freeOrder, orderWord}
 use Rattle.blocks.specs.Passes.{Edge, Filled, SettledTo, Checked, sameIn}
 use Rattle.blocks.proofs.AroundLaws.{double, mod-start, start-mod, finer, coarser, in-block, block-in, start-same, around-at, at-around, around-same, smaller, around-ext, free-around, Maximal, order-here, maximal-order, maximal-same}
-use Rattle.blocks.proofs.WordLaws.{owner-low, owner-high, owners-small, free-same, free-zero, is-held, start-word, other-word, free-frame, held-word, high-word, word-ext, words-ext, owner-back, Lawful, lawful-yes, lawful-no}
+use Rattle.blocks.proofs.WordLaws.{owner-low, owner-high, owners-small, free-same, free-zero, is-held, start-word, other-word, free-frame, held-word, high-word, word-ext, words-ext, owner-back, lawful-yes, lawful-no}
 
 -- single words
 

@@ -1,8 +1,8 @@
 -- Taking the lowest part of a free block: the words written are those of the owners after it.
 use mathlib.Core.Path.{_≡_, refl, ap, _∙_, sym, fun-ext}
-use mathlib.Core.Bool.{Bool, true, false, not, _&&_}
+use mathlib.Core.Bool.{Bool, true, false, _&&_}
 use mathlib.Core.List.{List}
-use mathlib.Core.Option.{Option, none, some}
+use mathlib.Core.Option.{some}
 use Prim.Native.Nat.{ℕ, zero, suc, _+_, _/_, _^_, _-_, _<_, _≤_}
 use native.Mathlib.Decide.{decLt, decLe, ℕ-discrete}
 use native.Mathlib.Omega.{arith}
@@ -10,9 +10,8 @@ use lib.Dec.{eqb}
 use lib.ListN.{length, getD, set}
 use lib.Seq.{getD-set-same, getD-set-other}
 use lib.Pow.{pow-pos, pow-mono}
-use borrow.Author.Tests.{eqb-true, eq-eqb, ne-eqb}
-use Rattle.words.specs.Searches.{largest}
-use Rattle.words.proofs.Cases.{by-test, by-dec, true-false}
+use borrow.Author.Tests.{ne-eqb}
+use Rattle.words.proofs.Cases.{by-test, by-dec}
 use Rattle.words.proofs.TableLaws.{is-tabulate}
 use Rattle.words.proofs.SearchLaws.{largest-ext}
 use Rattle.blocks.specs.Blocks.{inBlock}

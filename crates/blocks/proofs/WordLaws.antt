@@ -1,24 +1,23 @@
 -- What frame words say: owners, free blocks, and the lawful buffer as the table of its own owners.
 use mathlib.Core.Path.{_≡_, refl, ap, _∙_, sym, fun-ext}
-use mathlib.Core.Bool.{Bool, true, false, _&&_, _||_}
+use mathlib.Core.Bool.{Bool, true, false, _||_}
 use mathlib.Core.List.{List}
 use mathlib.Core.Option.{Option, none, some}
-use Prim.Native.Nat.{ℕ, _+_, _^_, _<_, _≤_}
+use Prim.Native.Nat.{ℕ, _+_, _<_, _≤_}
 use native.Mathlib.Nat.{zero-add}
 use native.Mathlib.Decide.{decLt, decLe, ℕ-discrete}
 use native.Mathlib.Omega.{arith}
-use lib.Dec.{eqb, leb, ltb}
+use lib.Dec.{eqb}
 use lib.ListN.{length, getD, List·getD-eq-default}
-use borrow.Author.Tests.{leb-true, le-leb, lt-leb, eqb-true, eq-eqb, ne-eqb, lt-ltb, le-ltb}
-use Rattle.words.specs.Tables.{tabulate}
-use Rattle.words.specs.Searches.{every, firstFrom}
+use borrow.Author.Tests.{leb-true, le-leb, eqb-true, eq-eqb, ne-eqb, lt-ltb, le-ltb}
+use Rattle.words.specs.Searches.{firstFrom}
 use Rattle.words.proofs.Cases.{by-test, by-dec, true-false, and-true, true-and}
 use Rattle.words.proofs.TableLaws.{is-tabulate, tabulate-ext, length-tabulate, getD-tabulate, getD-tabulate-out}
 use Rattle.words.proofs.SearchLaws.{every-at, at-every, First, found, missing, firstFrom-is}
 use Rattle.blocks.specs.Blocks.{freeBlock}
 use Rattle.blocks.specs.FrameWords.{isPoolSize, isOwner, ownerOf, ownersOf, freeOf, freeIn, firstOrOther, freeWord, lawfulAt, lawful, frameWord, frameWords}
-use Rattle.blocks.specs.Around.{startOf, around, freeOrder, orderWord}
-use Rattle.blocks.proofs.AroundLaws.{Maximal, around-at, order-here, maximal-order, order-ext}
+use Rattle.blocks.specs.Around.{startOf, freeOrder, orderWord}
+use Rattle.blocks.proofs.AroundLaws.{around-at, order-here, maximal-order, order-ext}
 use Rattle.blocks.proofs.FreeBlockLaws.{BlockAt, free-block-at, at-free-block}
 
 -- owners

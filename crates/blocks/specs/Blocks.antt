@@ -1,5 +1,5 @@
 -- Blocks of frames. Document 01, Frames, first paragraph. `free` says of each frame number whether the frame is free.
-use mathlib.Core.Bool.{Bool, true, false, _&&_, not}
+use mathlib.Core.Bool.{Bool, _&&_, not}
 use Prim.Native.Nat.{ℕ, suc, _+_, _-_, _%_, _^_}
 use lib.Dec.{leb, ltb, eqb}
 use Rattle.words.specs.Searches.{allFrom, anyFrom}

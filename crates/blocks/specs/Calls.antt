@@ -3,7 +3,7 @@
 -- 8 no owner is asked for, or one outside 1 to 4,096 (a span may run across spaces: that is for the tables above); 11 an owner asked for already holds a frame; 12 an owner to free holds none;
 -- 14 fewer than n frames are free. Check and count are lent the buffer to read only, so their reply is all there is to say.
 use mathlib.Core.Path.{_≡_}
-use mathlib.Core.Bool.{Bool, true, false, _&&_, _||_, not}
+use mathlib.Core.Bool.{Bool, true, false, _&&_, not}
 use mathlib.Core.List.{List, [], _∷_}
 use Prim.Native.Nat.{ℕ, _+_, _-_}
 use lib.Dec.{leb, ltb, eqb}
@@ -42,9 +42,13 @@ unlawful F b = record { when = isPoolSize F && not (lawful F b); answer = Unlawf
 abbrev pub wrongPoolSize : ℕ → Refusal Reply
 wrongPoolSize F = record { when = not (isPoolSize F); answer = WrongPoolSize }
 
--- "count 0, or span past" the last: the n owners from o on are not all from 1 to 4,096
+-- the n owners from o on are at least one, and all from 1 to 4,096
+unfoldable pub inOwners : ℕ → ℕ → Bool
+inOwners o n = leb 1 n && (leb 1 o && leb (o + n) 4097)
+
+-- "count 0, or span past" the last
 abbrev pub wrongSpan : ℕ → ℕ → Refusal Reply
-wrongSpan o n = record { when = eqb n 0 || (eqb o 0 || ltb 4097 (o + n)); answer = WrongSpan }
+wrongSpan o n = record { when = not (inOwners o n); answer = WrongSpan }
 
 -- "already mapped": one of the owners holds a frame
 abbrev pub alreadyHeld : ℕ → List ℕ → ℕ → ℕ → Refusal Reply
@@ -58,6 +62,10 @@ notHeld F b o n = record { when = not (allFrom n o (holds F (ownersOf b))); answ
 abbrev pub tooFewFrames : ℕ → List ℕ → ℕ → Refusal Reply
 tooFewFrames F b n = record { when = ltb (count F (freeIn b)) n; answer = TooFewFrames }
 
+-- every call but set up judges the buffer first, then has refusals of its own
+unfoldable pub judged : ℕ → List ℕ → List (Refusal Reply) → Reply → Reply
+judged F b rs r = decide (wrongLength b ∷ unlawful F b ∷ wrongPoolSize F ∷ rs) r
+
 -- set up: all F frames free
 unfoldable pub setUpReply : ℕ → List ℕ → Reply
 setUpReply F b = decide (wrongLength b ∷ wrongPoolSize F ∷ []) (Done 0)
@@ -68,18 +76,15 @@ pub record SetUp (F : ℕ) (b : List ℕ) (r : Reply) (b′ : List ℕ) : Type 0
 
 -- check: accepted exactly where the words are lawful for F
 unfoldable pub checkReply : ℕ → List ℕ → Reply
-checkReply F b = decide (wrongLength b ∷ unlawful F b ∷ wrongPoolSize F ∷ []) (Done 0)
+checkReply F b = judged F b [] (Done 0)
 
 -- count: the free frames, counted singly
 unfoldable pub countReply : ℕ → List ℕ → Reply
-countReply F b = decide (wrongLength b ∷ unlawful F b ∷ wrongPoolSize F ∷ []) (Done (count F (freeIn b)))
+countReply F b = judged F b [] (Done (count F (freeIn b)))
 
 -- allocate: n frames for the owners o, o + 1, .., in page order; the value is the number of blocks
 unfoldable pub allocateReply : ℕ → List ℕ → ℕ → ℕ → Reply
-allocateReply F b o n =
-    decide
-    (wrongLength b ∷ unlawful F b ∷ wrongPoolSize F ∷ wrongSpan o n ∷ alreadyHeld F b o n ∷ tooFewFrames F b n ∷ [])
-    (Done (blockCount F (freeIn b) n))
+allocateReply F b o n = judged F b (wrongSpan o n ∷ alreadyHeld F b o n ∷ tooFewFrames F b n ∷ []) (Done (blockCount F (freeIn b) n))
 
 pub record Allocated (F : ℕ) (b : List ℕ) (o : ℕ) (out : List ℕ) (r : Reply) (b′ out′ : List ℕ) : Type 0 where
   pub answers : r ≡ allocateReply F b o (length out)
@@ -97,10 +102,7 @@ unfoldable pub freedWords : ℕ → List ℕ → ℕ → ℕ → List ℕ
 freedWords F b o n = frameWords F (freed (ownersOf b) o n)
 
 unfoldable pub freeReply : ℕ → List ℕ → ℕ → ℕ → Reply
-freeReply F b o n =
-    decide
-    (wrongLength b ∷ unlawful F b ∷ wrongPoolSize F ∷ wrongSpan o n ∷ notHeld F b o n ∷ [])
-    (Done (count F (freeIn (freedWords F b o n)) - count F (freeIn b)))
+freeReply F b o n = judged F b (wrongSpan o n ∷ notHeld F b o n ∷ []) (Done (count F (freeIn (freedWords F b o n)) - count F (freeIn b)))
 
 pub record Freed (F : ℕ) (b : List ℕ) (o n : ℕ) (r : Reply) (b′ : List ℕ) : Type 0 where
   pub answers : r ≡ freeReply F b o n

@@ -1,5 +1,5 @@
 -- Which blocks a request takes. Document 01, Frames, second paragraph. "The search over orders stops at the first order that serves": `largest` and `firstFrom` stop at the first that passes.
-use mathlib.Core.Bool.{Bool, true, false, _&&_, not}
+use mathlib.Core.Bool.{Bool, _&&_, not}
 use mathlib.Core.List.{List, [], _∷_, _++_}
 use mathlib.Core.Option.{Option, none, some}
 use Prim.Native.Nat.{ℕ, zero, suc, _+_, _-_, _^_}

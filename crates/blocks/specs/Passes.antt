@@ -1,17 +1,17 @@
 -- What the inner functions of `frames` promise: each a step of a pass over the buffer, said of single words.
 use mathlib.Core.Path.{_≡_}
-use mathlib.Core.Bool.{Bool, true, false, _&&_}
+use mathlib.Core.Bool.{Bool, true, false}
 use mathlib.Core.List.{List}
 use mathlib.Core.Option.{Option, none, some}
 use Prim.Native.Nat.{ℕ, _+_, _-_, _^_, _<_, _≤_}
 use lib.Dec.{leb, ltb, eqb}
-use lib.ListN.{length, getD}
+use lib.ListN.{getD}
 use Rattle.words.specs.Counts.{one-if}
 use Rattle.words.specs.Searches.{anyFrom, largest}
 use Rattle.blocks.specs.declared.Block.{Block}
 use Rattle.blocks.specs.declared.Bound.{Bound}
 use Rattle.blocks.specs.Blocks.{block, inBlock, freeBlock}
-use Rattle.blocks.specs.FrameWords.{ownersOf, freeIn, frameWord, frameWords}
+use Rattle.blocks.specs.FrameWords.{ownersOf, freeIn, frameWord}
 use Rattle.blocks.specs.Choice.{lowest}
 use Rattle.blocks.specs.Owners.{cleared}
 use Rattle.blocks.specs.Around.{startOf, around}

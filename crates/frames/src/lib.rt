@@ -1,25 +1,23 @@
 // The frame pool as it ships: set up, check, count, allocate and free over a lent buffer of 4,096 frame words.
 // Each call judges what it is lent. The functions of `cores` ask for that beforehand, and serve callers that have judged it themselves.
 mod buffer;
-mod check;
-mod choose;
+mod checking;
+mod choosing;
 pub mod cores;
-mod release;
-mod settle;
-mod take;
+mod freeing;
+mod settling;
+mod taking;
 
 ghost use mathlib.Core.Path.{_≡_};
+ghost use Prim.Native.Nat.{ℕ};
 ghost use lib.ListN.{length};
-ghost use Rattle.blocks.specs.Calls.{outcome, SetUp, checkReply, countReply, Allocated, Freed};
-use crate::check::lawful;
-use crate::release::all_held;
-use crate::release::any_held;
-use crate::release::count_free;
-use crate::release::release;
-use crate::settle::fresh;
-use crate::take::take_frames;
-use blocks::Outcome;
-use blocks::Reply;
+ghost use Rattle.blocks.specs.FrameWords.{isPoolSize};
+ghost use Rattle.blocks.specs.Calls.{outcome, inOwners, SetUp, checkReply, countReply, Allocated, Freed};
+use blocks::{Outcome, Reply};
+use crate::checking::lawful;
+use crate::freeing::{all_held, any_held, count_free, release};
+use crate::settling::fresh;
+use crate::taking::take_frames;
 
 // The number, first and second value of an answer.
 pub fn outcome(r: Reply) -> Outcome
@@ -67,4 +65,123 @@ pub fn outcome(r: Reply) -> Outcome
             second: 0,
         },
     }
+}
+
+fn is_pool_size(pool: u32) -> bool
+    ensures { λ r. ⌜ r ≡ isPoolSize pool ⌝ }
+{
+    if pool < 1 {
+        return false;
+    }
+    pool <= 4096
+}
+
+// Whether the n owners from `owner` on are at least one, and all from 1 to 4,096.
+fn in_owners(owner: u32, n: usize) -> bool
+    ensures { λ r. ⌜ r ≡ inOwners owner n ⌝ }
+{
+    if n < 1 {
+        return false;
+    }
+    if owner < 1 {
+        return false;
+    }
+    if 4096 < n {
+        return false;
+    }
+    owner as usize + n <= 4097
+}
+
+// Sets up the words of a pool whose `pool` frames are all free. Refused: 1, 4.
+pub fn set_up(frames: &mut [u32], pool: u32) -> Reply
+    ensures { λ r. ⌜ SetUp pool (now (frames .entry)) r (now (frames .exit)) ⌝ }
+{
+    if frames.len() != 4096 {
+        return Reply::WrongLength;
+    }
+    let size = is_pool_size(pool);
+    if !size {
+        return Reply::WrongPoolSize;
+    }
+    fresh(frames, pool);
+    Reply::Done(0)
+}
+
+// Whether the words are lawful for a pool of `pool` frames. Refused: 1, 2, 4.
+pub fn check(frames: &[u32], pool: u32) -> Reply
+    ensures { λ r. ⌜ r ≡ checkReply pool (now (frames .entry)) ⌝ }
+{
+    if frames.len() != 4096 {
+        return Reply::WrongLength;
+    }
+    let size = is_pool_size(pool);
+    if !size {
+        return Reply::WrongPoolSize;
+    }
+    let good = lawful(frames, pool);
+    if !good {
+        return Reply::Unlawful;
+    }
+    Reply::Done(0)
+}
+
+// How many frames are free, counted singly. Refused: 1, 2, 4.
+pub fn count(frames: &[u32], pool: u32) -> Reply
+    ensures { λ r. ⌜ r ≡ countReply pool (now (frames .entry)) ⌝ }
+{
+    let judged = check(frames, pool);
+    let o = outcome(judged);
+    if o.number != 0 {
+        return judged;
+    }
+    Reply::Done(count_free(frames, pool))
+}
+
+// Takes out.len() frames for the owners from `owner` on, by the map rule: their numbers into `out`, in page order.
+// The value is the number of blocks. Refused: 1, 2, 4, 8, 11, 14.
+pub fn allocate(frames: &mut [u32], pool: u32, owner: u32, out: &mut [u32]) -> Reply
+    ensures { λ r. ⌜ Allocated pool (now (frames .entry)) owner (now (out .entry)) r (now (frames .exit)) (now (out .exit)) ⌝ }
+{
+    let judged = check(frames, pool);
+    let o = outcome(judged);
+    if o.number != 0 {
+        return judged;
+    }
+    let n = out.len();
+    let fits = in_owners(owner, n);
+    if !fits {
+        return Reply::WrongSpan;
+    }
+    let held = any_held(frames, pool, owner, n as u32);
+    if held {
+        return Reply::AlreadyHeld;
+    }
+    let free = count_free(frames, pool);
+    if free < n as u32 {
+        return Reply::TooFewFrames;
+    }
+    Reply::Done(take_frames(frames, pool, owner, out))
+}
+
+// Frees every frame of the n owners from `owner` on. The value is the number of frames that became free. Refused: 1, 2, 4, 8, 12.
+pub fn free(frames: &mut [u32], pool: u32, owner: u32, n: u32) -> Reply
+    ensures { λ r. ⌜ Freed pool (now (frames .entry)) owner n r (now (frames .exit)) ⌝ }
+{
+    let judged = check(frames, pool);
+    let o = outcome(judged);
+    if o.number != 0 {
+        return judged;
+    }
+    let fits = in_owners(owner, n as usize);
+    if !fits {
+        return Reply::WrongSpan;
+    }
+    let held = all_held(frames, pool, owner, n);
+    if !held {
+        return Reply::NotHeld;
+    }
+    let before = count_free(frames, pool);
+    release(frames, pool, owner, n);
+    let after = count_free(frames, pool);
+    Reply::Done(after - before)
 }

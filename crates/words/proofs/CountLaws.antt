@@ -24,6 +24,16 @@ count-ext zero p q h = refl
 count-ext (suc n) p q h =
     ap₂ _+_ (count-ext n p q (λ i hi. h i (omega arith))) (ap one-if (h n (omega arith)))
 
+-- where each that passes p passes q too
+pub count-mono : (n : ℕ) (p q : ℕ → Bool) → ((i : ℕ) → i < n → p i ≡ true → q i ≡ true) → count n p ≤ count n q
+unfolding count one-if
+count-mono zero p q h = zero-le
+count-mono (suc n) p q h =
+    let rest = count-mono n p q (λ i hi. h i (omega arith)) in
+    by-test (p n)
+    (λ t. rw (t, h n (omega arith) t) (omega arith))
+    (λ t. rw t (omega arith))
+
 pub one-if-not : (b : Bool) → one-if b + one-if (not b) ≡ 1
 unfolding one-if
 one-if-not true = refl

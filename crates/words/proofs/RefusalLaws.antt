@@ -12,3 +12,8 @@ module _ {A : Type 0} (c : Bool) (r : A) (rs : List (Refusal A)) (a : A) where
   pub passed : c ≡ false → decide (record { when = c; answer = r } ∷ rs) a ≡ decide rs a
   unfolding decide
   passed f = rw (f, decide)
+
+-- none applies
+pub decided : {A : Type 0} (a : A) → decide [] a ≡ a
+unfolding decide
+decided a = refl

@@ -1,9 +1,7 @@
 use borrow.Author.Needs.{needs}
 use Rattle.frames.proofs.outcome.Statement.{statement}
 use Rattle.frames.proofs.outcome.Tie as tie
-use Rattle.frames.proofs.outcome.Reads as reads
-use Rattle.frames.proofs.outcome.Lts as lts
-use mathlib.Core.Path.{_≡_, refl, sym, ap, _∙_}
+use mathlib.Core.Path.{sym, ap}
 use Rattle.blocks.specs.Calls.{outcome}
 
 -- src/lib.rt:25:21

@@ -1,11 +1,8 @@
 use borrow.Author.Needs.{needs}
 use Rattle.frames.proofs.buffer.all_free.Statement.{statement}
 use Rattle.frames.proofs.buffer.all_free.Tie as tie
-use Rattle.frames.proofs.buffer.all_free.Reads as reads
-use Rattle.frames.proofs.buffer.all_free.Lts as lts
-use Rattle.frames.proofs.buffer.owner_of.Reads as owner-of-reads
-use mathlib.Core.Path.{_≡_, refl, sym, ap, _∙_}
-use Prim.Native.Nat.{ℕ, _≤_, _<_, _-_, _+_, _^_}
+use mathlib.Core.Path.{_≡_, refl, sym, _∙_}
+use Prim.Native.Nat.{_≤_, _-_}
 use native.Mathlib.Omega.{arith}
 use Rattle.words.specs.Searches.{allFrom}
 use Rattle.blocks.specs.FrameWords.{freeIn}

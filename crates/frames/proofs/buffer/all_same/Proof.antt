@@ -1,10 +1,8 @@
 use borrow.Author.Needs.{needs}
 use Rattle.frames.proofs.buffer.all_same.Statement.{statement}
 use Rattle.frames.proofs.buffer.all_same.Tie as tie
-use Rattle.frames.proofs.buffer.all_same.Reads as reads
-use Rattle.frames.proofs.buffer.all_same.Lts as lts
-use mathlib.Core.Path.{_≡_, refl, sym, ap, _∙_}
-use Prim.Native.Nat.{ℕ, _≤_, _<_, _-_, _+_, _^_}
+use mathlib.Core.Path.{_≡_, refl, sym, _∙_}
+use Prim.Native.Nat.{_≤_, _-_}
 use native.Mathlib.Omega.{arith}
 use Rattle.words.specs.Searches.{allFrom}
 use Rattle.blocks.specs.Passes.{sameIn}

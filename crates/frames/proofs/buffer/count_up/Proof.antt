@@ -1,10 +1,8 @@
 use borrow.Author.Needs.{needs}
 use Rattle.frames.proofs.buffer.count_up.Statement.{statement}
 use Rattle.frames.proofs.buffer.count_up.Tie as tie
-use Rattle.frames.proofs.buffer.count_up.Reads as reads
-use Rattle.frames.proofs.buffer.count_up.Lts as lts
-use mathlib.Core.Path.{_≡_, refl, sym, ap, _∙_}
-use Prim.Native.Nat.{ℕ, _≤_, _<_, _-_, _+_, _^_}
+use mathlib.Core.Path.{_≡_, refl}
+use Prim.Native.Nat.{_≤_, _-_, _+_}
 use native.Mathlib.Omega.{arith}
 use lib.ListN.{length, length-set}
 use Rattle.blocks.specs.Passes.{CountedUp}

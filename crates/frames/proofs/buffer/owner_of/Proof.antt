@@ -1,10 +1,7 @@
 use Rattle.frames.proofs.buffer.owner_of.Statement.{statement}
 use Rattle.frames.proofs.buffer.owner_of.Tie as tie
-use Rattle.frames.proofs.buffer.owner_of.Reads as reads
-use Rattle.frames.proofs.buffer.owner_of.Lts as lts
-use mathlib.Core.Path.{_≡_, refl, sym, ap, _∙_}
-use Prim.Native.Nat.{ℕ, _≤_, _<_, _-_, _+_, _^_}
-use native.Mathlib.Omega.{arith}
+use mathlib.Core.Path.{sym}
+use Prim.Native.Nat.{_-_}
 use Rattle.blocks.proofs.WordLaws.{owner-low, owner-high}
 
 -- src/buffer.rt:14:9

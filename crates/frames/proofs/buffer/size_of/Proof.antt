@@ -1,10 +1,7 @@
 use borrow.Author.Needs.{needs}
 use Rattle.frames.proofs.buffer.size_of.Statement.{statement}
 use Rattle.frames.proofs.buffer.size_of.Tie as tie
-use Rattle.frames.proofs.buffer.size_of.Reads as reads
-use Rattle.frames.proofs.buffer.size_of.Lts as lts
-use mathlib.Core.Path.{_≡_, refl, sym, ap, _∙_}
-use Prim.Native.Nat.{ℕ, _≤_, _<_, _-_, _+_, _^_}
+use Prim.Native.Nat.{_-_}
 use native.Mathlib.Omega.{arith}
 use Rattle.blocks.proofs.AroundLaws.{shift-one}
 

@@ -1,0 +1,112 @@
+-- What the frame pool promises to a layer above, beyond the contracts of its functions. A crate above imports from the pool this module and the definitions that promises name, and nothing else.
+use mathlib.Core.Path.{_≡_, refl, sym}
+use mathlib.Core.Bool.{Bool, true, false}
+use mathlib.Core.List.{List}
+use mathlib.Core.Option.{Option, some}
+use Prim.Native.Nat.{ℕ, _+_, _<_, _≤_}
+use native.Mathlib.Decide.{decLt}
+use native.Mathlib.Omega.{arith}
+use lib.ListN.{length, getD}
+use Rattle.words.specs.Counts.{count}
+use Rattle.words.specs.Searches.{anyFrom}
+use Rattle.words.proofs.Cases.{by-dec}
+use Rattle.blocks.specs.declared.Block.{Block}
+use Rattle.blocks.specs.FrameWords.{ownersOf, freeIn, lawful, frameWords}
+use Rattle.blocks.specs.Choice.{takeBlock, blocksFor, framesFor}
+use Rattle.blocks.specs.Owners.{give, freed, holds}
+use Rattle.blocks.proofs.WordLaws.{owners-small, lawful-is, lawful-yes, table-lawful}
+use Rattle.blocks.proofs.WordLaws
+use Rattle.blocks.proofs.ChoiceLaws.{Good, takes-good, takes-all, Taking, taking, one, end, takeBlocks-same}
+use Rattle.blocks.proofs.FreeLaws.{given-at, given-other, allocated-owners, freed-again, nobody-holds}
+
+-- frames that a request of n pages takes
+
+-- as many as asked, below F, free before, each once
+pub record Fresh (F : ℕ) (free : ℕ → Bool) (n : ℕ) (fs : List ℕ) : Type 0 where
+  pub many : length fs ≡ n
+  pub below : (t : ℕ) → t < n → getD fs t 0 < F
+  pub unheld : (t : ℕ) → t < n → free (getD fs t 0) ≡ true
+  pub once : (t u : ℕ) → t < n → u < n → getD fs t 0 ≡ getD fs u 0 → t ≡ u
+
+good-frames : (F : ℕ) (free : ℕ → Bool) (n : ℕ) → Good F free (framesFor F free n)
+unfolding framesFor blocksFor
+good-frames F free n = takes-good n F free n
+
+-- exactly n where n are free
+pub frames-fresh : (F : ℕ) (free : ℕ → Bool) (n : ℕ) → n ≤ count F free → Fresh F free n (framesFor F free n)
+unfolding framesFor blocksFor
+frames-fresh F free n enough =
+    let m : length (framesFor F free n) ≡ n = takes-all n F free n (omega arith) enough in
+    let g = good-frames F free n in
+    record {
+      many = m;
+      below = λ t h. g .inside t (omega arith) .0;
+      unheld = λ t h. g .inside t (omega arith) .1;
+      once = λ t u ht hu e. g .once t u (omega arith) (omega arith) e;
+    }
+
+-- a block can always be taken while a frame is free and a page is left
+pub block-there : (F : ℕ) (free : ℕ → Bool) (left f : ℕ) → 1 ≤ left → f < F → free f ≡ true → (b : Block) × (takeBlock F free left ≡ some b)
+block-there F free left f pos h t = go (takeBlock F free left) refl (taking F free left)
+  where
+    go : (o : Option Block) → takeBlock F free left ≡ o → Taking F free left o → (b : Block) × (takeBlock F free left ≡ some b)
+    go o e (one b w) = (b, e)
+    go o e (end n) = absurd (n f h t pos)
+
+-- the result depends only on which frames below F are free
+pub blocks-same : (F : ℕ) (p q : ℕ → Bool) (n : ℕ) → ((g : ℕ) → g < F → p g ≡ q g) → blocksFor F p n ≡ blocksFor F q n
+unfolding blocksFor
+blocks-same F p q n same = takeBlocks-same n F p q n same
+
+-- lawful buffers
+
+-- a lawful buffer is the table of its own owners
+pub own-table : (F : ℕ) (b : List ℕ) → lawful F b ≡ true → b ≡ frameWords F (ownersOf b)
+own-table F b t = WordLaws.lawful-table F b (lawful-is F b t)
+
+pub record Facts (F : ℕ) (b : List ℕ) : Type 0 where
+  pub len : length b ≡ 4096
+  pub some-frame : 1 ≤ F
+  pub small : F ≤ 4096
+  pub owners-low : (g : ℕ) → ownersOf b g ≤ 4096
+  pub owners-high : (g : ℕ) → F ≤ g → ownersOf b g ≡ 0
+
+pub lawful-facts : (F : ℕ) (b : List ℕ) → lawful F b ≡ true → Facts F b
+lawful-facts F b t =
+    let l = lawful-is F b t in
+    record { len = l .len; some-frame = l .pos; small = l .small; owners-low = owners-small b; owners-high = WordLaws.owners-high F b l }
+
+-- the table of any owners that stand below F is lawful, and names just these
+module _ (F : ℕ) (o : ℕ → ℕ) (low : (g : ℕ) → o g ≤ 4096) (high : (g : ℕ) → F ≤ g → o g ≡ 0) (small : F ≤ 4096) where
+  pub table-is-lawful : 1 ≤ F → lawful F (frameWords F o) ≡ true
+  table-is-lawful pos = sym (lawful-yes F (frameWords F o) (table-lawful F o low high small pos))
+
+  pub table-owners : ownersOf (frameWords F o) ≡ o
+  table-owners = WordLaws.owners-again F o low high small
+
+-- words depend only on the owners below F
+pub words-same : (F : ℕ) (o p : ℕ → ℕ) → ((g : ℕ) → g < F → o g ≡ p g) → frameWords F o ≡ frameWords F p
+words-same F o p same = WordLaws.words-ext F o p same
+
+-- giving and freeing
+
+-- the frame of page t is owned by o + t, and a frame that is not given keeps its owner
+pub owner-given : (F : ℕ) (free : ℕ → Bool) (owner : ℕ → ℕ) (o n t : ℕ) → n ≤ count F free → t < n → give owner o (framesFor F free n) (getD (framesFor F free n) t 0) ≡ o + t
+owner-given F free owner o n t enough h = given-at F free owner o (framesFor F free n) (good-frames F free n) t (omega (arith, frames-fresh F free n enough .many))
+
+pub owner-kept : (owner : ℕ → ℕ) (o : ℕ) (fs : List ℕ) (g : ℕ) → ((t : ℕ) → t < length fs → getD fs t 0 ≡ g → ⊥) → give owner o fs g ≡ owner g
+owner-kept = given-other
+
+-- the words that an allocation leaves name just the owners that it gives
+pub owners-allocated : (F : ℕ) (b : List ℕ) (o n : ℕ) → lawful F b ≡ true → n ≤ count F (freeIn b) → o + n ≤ 4097
+    → ownersOf (frameWords F (give (ownersOf b) o (framesFor F (freeIn b) n))) ≡ give (ownersOf b) o (framesFor F (freeIn b) n)
+owners-allocated F b o n t enough room = allocated-owners F b (lawful-is F b t) o n enough room
+
+-- freeing what was allocated gives back the very same words
+pub free-allocated : (F : ℕ) (b : List ℕ) (o n : ℕ) → lawful F b ≡ true → n ≤ count F (freeIn b) → 1 ≤ o → o + n ≤ 4097 → anyFrom n o (holds F (ownersOf b)) ≡ false
+    → frameWords F (freed (ownersOf (frameWords F (give (ownersOf b) o (framesFor F (freeIn b) n)))) o n) ≡ b
+free-allocated F b o n t enough pos room nobody =
+    let l = lawful-is F b t in
+    freed-again F b l o n enough room (λ g lo hi. by-dec (decLt g F)
+    (λ h. nobody-holds b o n F nobody g h lo hi)
+    (λ ge. let z = WordLaws.owners-high F b l g (omega arith) in omega arith))
