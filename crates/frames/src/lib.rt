@@ -13,11 +13,15 @@ ghost use Prim.Native.Nat.{ℕ};
 ghost use lib.ListN.{length};
 ghost use Rattle.blocks.specs.FrameWords.{isPoolSize};
 ghost use Rattle.blocks.specs.Calls.{outcome, inOwners, SetUp, checkReply, countReply, Allocated, Freed};
-use blocks::{Outcome, Reply};
 use crate::checking::lawful;
-use crate::freeing::{all_held, any_held, count_free, release};
+use crate::freeing::all_held;
+use crate::freeing::any_held;
+use crate::freeing::count_free;
+use crate::freeing::release;
 use crate::settling::fresh;
 use crate::taking::take_frames;
+use blocks::Outcome;
+use blocks::Reply;
 
 // The number, first and second value of an answer.
 pub fn outcome(r: Reply) -> Outcome
