@@ -1,17 +1,17 @@
 -- What the frame pool promises to a layer above, beyond the contracts of its functions. A crate above imports from the pool this module and the definitions that promises name, and nothing else.
-use mathlib.Core.Path.{_≡_, refl, sym}
+use mathlib.Core.Path.{_≡_, refl, ap, _∙_, sym}
 use mathlib.Core.Bool.{Bool, true, false}
 use mathlib.Core.List.{List}
 use mathlib.Core.Option.{Option, some}
 use Prim.Native.Nat.{ℕ, _+_, _<_, _≤_}
-use native.Mathlib.Decide.{decLt}
+use native.Mathlib.Decide.{decLt, decLe}
 use native.Mathlib.Omega.{arith}
 use lib.ListN.{length, getD}
 use Rattle.words.specs.Counts.{count}
 use Rattle.words.specs.Searches.{anyFrom}
 use Rattle.words.proofs.Cases.{by-dec}
 use Rattle.blocks.specs.declared.Block.{Block}
-use Rattle.blocks.specs.FrameWords.{ownersOf, freeIn, lawful, frameWords}
+use Rattle.blocks.specs.FrameWords.{isOwner, ownerOf, ownersOf, freeIn, lawful, frameWords}
 use Rattle.blocks.specs.Choice.{takeBlock, blocksFor, framesFor}
 use Rattle.blocks.specs.Owners.{give, freed, holds}
 use Rattle.blocks.proofs.WordLaws.{owners-small, lawful-is, lawful-yes, table-lawful}
@@ -57,6 +57,26 @@ block-there F free left f pos h t = go (takeBlock F free left) refl (taking F fr
 pub blocks-same : (F : ℕ) (p q : ℕ → Bool) (n : ℕ) → ((g : ℕ) → g < F → p g ≡ q g) → blocksFor F p n ≡ blocksFor F q n
 unfolding blocksFor
 blocks-same F p q n same = takeBlocks-same n F p q n same
+
+-- owners, as a word names them
+
+pub owner-test : (w : ℕ) → isOwner w ≡ true → (1 ≤ w) × (w ≤ 4096)
+owner-test = WordLaws.is-owner
+
+pub test-owner : (w : ℕ) → 1 ≤ w → w ≤ 4096 → isOwner w ≡ true
+test-owner = WordLaws.owner-is
+
+-- the owner of a held frame is its word
+pub owner-word : (b : List ℕ) (f : ℕ) → (ownersOf b f ≡ 0 → ⊥) → (getD b f 0 ≡ ownersOf b f) × (1 ≤ ownersOf b f) × (ownersOf b f ≤ 4096)
+unfolding ownersOf
+owner-word b f n =
+    by-dec (decLe (getD b f 0) 4096)
+    (λ le. let e = WordLaws.owner-low (getD b f 0) le in (sym e, omega arith, omega arith))
+    (λ gt. absurd (n (WordLaws.owner-high (getD b f 0) (omega arith))))
+
+pub word-owner : (b : List ℕ) (f w : ℕ) → getD b f 0 ≡ w → w ≤ 4096 → ownersOf b f ≡ w
+unfolding ownersOf
+word-owner b f w e le = ap ownerOf e ∙ WordLaws.owner-low w le
 
 -- lawful buffers
 

@@ -1,0 +1,12 @@
+use Rattle.ranges.proofs.page_words.range_bit.Statement.{statement}
+use Rattle.ranges.proofs.page_words.range_bit.Tie as tie
+use mathlib.Core.Path.{refl}
+use Rattle.runs.specs.PageWords.{rangeBit}
+
+-- src/page_words.rt:18:1
+returns : tie.Need-returns
+unfolding rangeBit
+returns c = refl
+
+pub range-bit-spec : {M : Type 1} → statement M
+range-bit-spec = tie.close (tie.spec returns)

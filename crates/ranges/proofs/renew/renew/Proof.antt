@@ -1,0 +1,125 @@
+use borrow.Author.Needs.{needs}
+use Rattle.ranges.proofs.renew.renew.Statement.{statement}
+use Rattle.ranges.proofs.renew.renew.Tie as tie
+use mathlib.Core.Path.{_≡_, refl}
+use Prim.Native.Nat.{_-_}
+use native.Mathlib.Omega.{arith}
+use Rattle.runs.proofs.StepLaws.{run-le}
+use Rattle.runs.proofs.RenewLaws.{Renewing, renew-start, room-step, renew-step, room-end, renew-place, renew-pages, renew-table}
+
+abbrev Inv-loop : tie.InvT-loop
+Inv-loop part₀ ranges₀ n₀ v₀ at₀ i₀ part ranges n v at i = Renewing part₀ part ranges i n v at
+
+abbrev μ-loop : tie.MeasureT-loop
+μ-loop part₀ ranges₀ n₀ v₀ at₀ i₀ part ranges n v at i = 1024 - i
+
+-- src/renew.rt:95:5
+loop-holds : tie.Need-loop-holds Inv-loop μ-loop
+loop-holds c = renew-start _ _ (omega arith) (omega arith)
+
+-- src/renew.rt:96:22
+cast-w : tie.Need-cast-w Inv-loop μ-loop
+cast-w c = search needs
+
+-- src/renew.rt:96:17
+mul-w : tie.Need-mul-w Inv-loop μ-loop
+mul-w c = search needs
+
+-- src/renew.rt:96:17
+slice-read-w : tie.Need-slice-read-w Inv-loop μ-loop
+slice-read-w c = search needs
+
+-- src/renew.rt:97:13
+joined-requires : tie.Need-joined-requires Inv-loop μ-loop
+joined-requires c κs = search needs
+
+-- src/renew.rt:98:9
+end-run-requires : tie.Need-end-run-requires Inv-loop μ-loop
+end-run-requires c κs = (omega arith, (omega arith, (room-step _ _ _ _ _ _ _ (c .before .before .before .before .before .loop .inv) _ _ (omega arith) refl (c .before .before .joined .ensures), (run-le _ _ _ _ _ _ (c .before .before .before .before .before .loop .inv .walked), omega arith))))
+
+-- src/renew.rt:99:28
+bit-word-requires : tie.Need-bit-word-requires Inv-loop μ-loop
+bit-word-requires c κs = search needs
+
+-- src/renew.rt:99:14
+cast-part : tie.Need-cast-part Inv-loop μ-loop
+cast-part c = search needs
+
+-- src/renew.rt:99:9
+mul-part : tie.Need-mul-part Inv-loop μ-loop
+mul-part c = search needs
+
+-- src/renew.rt:99:9
+slice-write-part : tie.Need-slice-write-part Inv-loop μ-loop
+slice-write-part c = search needs
+
+-- src/renew.rt:100:9
+goes-on-requires : tie.Need-goes-on-requires Inv-loop μ-loop
+goes-on-requires c κs = omega (arith, run-le _ _ _ _ _ _ (c .before .before .before .before .before .before .before .before .before .before .before .loop .inv .walked))
+
+-- src/renew.rt:102:9
+add-i : tie.Need-add-i Inv-loop μ-loop
+add-i c = search needs
+
+-- src/renew.rt:95:5
+loop-less : tie.Need-loop-less Inv-loop μ-loop
+loop-less c = search needs
+
+-- src/renew.rt:95:5
+loop-again : tie.Need-loop-again Inv-loop μ-loop
+loop-again c = renew-step _ _ _ _ _ _ _ (c .before .before .before .before .before .before .before .before .before .before .before .before .loop .inv) _ _ _ _ _ _ _ (omega arith) refl (omega arith) (c .before .before .before .before .before .before .before .before .before .joined .ensures) (c .before .bit-word .ensures) (c .goes-on .ensures) (c .before .before .before .before .before .before .end-run .ensures)
+
+-- src/renew.rt:104:5
+end-run-requires-2 : tie.Need-end-run-requires-2 Inv-loop μ-loop
+end-run-requires-2 c κs =
+    let e : c .before .before .before .loop .i ≡ 1024 = omega (arith, c .before .before .before .loop .inv .walked .inside) in
+    let r = room-end _ _ _ _ _ _ _ (c .before .before .before .loop .inv) e in
+    (omega arith, (omega arith, (rw e at r, (omega (arith, run-le _ _ _ _ _ _ (c .before .before .before .loop .inv .walked)), omega arith))))
+
+-- src/renew.rt:105:5
+zero-from-requires : tie.Need-zero-from-requires Inv-loop μ-loop
+zero-from-requires c κs =
+    let e : c .before .before .before .before .before .before .before .before .before .loop .i ≡ 1024 = omega (arith, c .before .before .before .before .before .before .before .before .before .loop .inv .walked .inside) in
+    let r = c .before .before .before .before .before .end-run2 .ensures in
+    renew-place _ _ _ _ _ _ _ (c .before .before .before .before .before .before .before .before .before .loop .inv) _ _ _ e (rw (← e) at r)
+
+-- src/renew.rt:85:1
+same-length : tie.Need-same-length Inv-loop μ-loop
+same-length c = search needs
+
+-- src/renew.rt:85:1
+same-length-2 : tie.Need-same-length-2 Inv-loop μ-loop
+same-length-2 c = search needs
+
+-- src/renew.rt:85:1
+returns : tie.Need-returns Inv-loop μ-loop
+returns c =
+    let e : c .before .before .before .before .before .before .before .before .before .before .before .before .loop .i ≡ 1024 = omega (arith, c .before .before .before .before .before .before .before .before .before .before .before .before .loop .inv .walked .inside) in
+    let r = c .before .before .before .before .before .before .before .before .end-run2 .ensures in
+    (renew-pages _ _ _ _ _ _ _ (c .before .before .before .before .before .before .before .before .before .before .before .before .loop .inv) _ _ _ e (omega arith) (rw (← e) at r), renew-table _ _ _ _ _ _ _ (c .before .before .before .before .before .before .before .before .before .before .before .before .loop .inv) _ _ _ _ e (rw (← e) at r) (c .before .before .zero-from .ensures))
+
+pub renew-spec : {M : Type 1} → statement M
+renew-spec =
+    tie.close
+    (tie.spec
+    Inv-loop
+    μ-loop
+    loop-holds
+    cast-w
+    mul-w
+    slice-read-w
+    joined-requires
+    end-run-requires
+    bit-word-requires
+    cast-part
+    mul-part
+    slice-write-part
+    goes-on-requires
+    add-i
+    loop-less
+    loop-again
+    end-run-requires-2
+    zero-from-requires
+    same-length
+    same-length-2
+    returns)

@@ -1,0 +1,6 @@
+// Ranges of one space: its range bits and range words made anew, and their check. Each walks the page words once and carries the running length.
+// The caller lends one space's 1,024 page words and 512 range words.
+pub mod lawful;
+pub mod page_words;
+pub mod renew;
+mod walk;

@@ -1,0 +1,106 @@
+// Range bits and range words made anew.
+ghost use mathlib.Core.Path.{_≡_};
+ghost use Prim.Native.Nat.{_+_, _≤_};
+ghost use lib.ListN.{length};
+ghost use lib.Seq.{sets};
+ghost use Rattle.runs.specs.Walk.{entryOf, ended, withBits, rangeWords};
+ghost use Rattle.runs.specs.Steps.{Marked, EndedRun, zeroFrom};
+use crate::page_words::bit_word;
+use crate::page_words::frame_in;
+use crate::page_words::offset;
+use crate::page_words::rights_in;
+use crate::walk::goes_on;
+use crate::walk::joined;
+use runs::Page;
+
+// Sets the range bit of n pages from page a on.
+fn mark(part: &mut [u32], a: Page, n: u32)
+    requires { ⌜ a .0 + n ≤ length (now part) ⌝ }
+    requires { ⌜ length (now part) ≡ 1024 ⌝ }
+    ensures { λ _. ⌜ Marked (now (part .entry)) (a .0) n (now (part .exit)) ⌝ }
+{
+    let first = a.0;
+    let mut k: u32 = 0;
+    while k < n {
+        let at = (first + k) as usize;
+        part[at] = bit_word(true, part[at]);
+        k += 1;
+    }
+}
+
+// Writes the entry of the run of n pages that ends before page b, at word v.
+fn put(ranges: &mut [u32], at: usize, b: Page, n: u32, v: u32)
+    requires { ⌜ length (now ranges) ≡ 512 ⌝ }
+    requires { ⌜ at + 4 ≤ 512 ⌝ }
+    requires { ⌜ (n ≤ b .0) × (1 ≤ b .0) ⌝ }
+    ensures { λ _. ⌜ now (ranges .exit) ≡ sets (now (ranges .entry)) at (entryOf (b .0) n v) ⌝ }
+{
+    let limit = b.0;
+    ranges[at] = limit - n;
+    ranges[at + 1] = limit;
+    ranges[at + 2] = offset(frame_in(v), Page(limit - 1));
+    ranges[at + 3] = rights_in(v);
+}
+
+// Closes the run of n pages before page b, unless page b goes on it, and answers the place of the next entry.
+fn end_run(
+    part: &mut [u32],
+    ranges: &mut [u32],
+    on: bool,
+    at: usize,
+    b: Page,
+    n: u32,
+    v: u32,
+) -> usize
+    requires { ⌜ length (now part) ≡ 1024 ⌝ }
+    requires { ⌜ length (now ranges) ≡ 512 ⌝ }
+    requires { ⌜ at + length (ended on (b .0) n v) ≤ 512 ⌝ }
+    requires { ⌜ (n ≤ b .0) × (b .0 ≤ 1024) ⌝ }
+    ensures { λ r. ⌜ EndedRun (now (part .entry)) (now (ranges .entry)) on at (b .0) n v r (now (part .exit)) (now (ranges .exit)) ⌝ }
+{
+    if on {
+        return at;
+    }
+    if n < 8 {
+        return at;
+    }
+    mark(part, Page(b.0 - n), n);
+    put(ranges, at, b, n, v);
+    at + 4
+}
+
+// Clears the range words from place `at` on.
+fn zero_from(ranges: &mut [u32], at: usize)
+    requires { ⌜ at ≤ length (now ranges) ⌝ }
+    ensures { λ _. ⌜ now (ranges .exit) ≡ zeroFrom (now (ranges .entry)) at ⌝ }
+{
+    let mut j = at;
+    while j < ranges.len() {
+        ranges[j] = 0;
+        j += 1;
+    }
+}
+
+// Makes a space's range bits and range words anew from its frames and rights.
+pub fn renew(part: &mut [u32], ranges: &mut [u32])
+    requires { ⌜ length (now part) ≡ 1024 ⌝ }
+    requires { ⌜ length (now ranges) ≡ 512 ⌝ }
+    ensures { λ _. ⌜ now (part .exit) ≡ withBits (now (part .entry)) ⌝ }
+    ensures { λ _. ⌜ now (ranges .exit) ≡ rangeWords (now (part .entry)) ⌝ }
+{
+    let mut n: u32 = 0;
+    let mut v: u32 = 0;
+    let mut at: usize = 0;
+    let mut i: u32 = 0;
+    while i < 1024 {
+        let w = part[i as usize];
+        let on = joined(v, w);
+        at = end_run(part, ranges, on, at, Page(i), n, v);
+        part[i as usize] = bit_word(false, w);
+        n = goes_on(n, v, w);
+        v = w;
+        i += 1;
+    }
+    at = end_run(part, ranges, false, at, Page(1024), n, v);
+    zero_from(ranges, at);
+}

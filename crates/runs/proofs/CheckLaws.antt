@@ -1,0 +1,297 @@
+-- The walk that checks range bits and range words.
+use mathlib.Core.Path.{_≡_, refl, ap, ap₂, _∙_, sym}
+use mathlib.Core.Bool.{Bool, true, false, Bool·beq, _&&_, not}
+use mathlib.Core.List.{List, [], _∷_, _++_, append-assoc, append-nil}
+use Prim.Native.Nat.{ℕ, suc, _+_, _-_, _<_, _≤_}
+use native.Mathlib.Nat.{add-zero}
+use native.Mathlib.Decide.{decLt, decLe, ℕ-discrete}
+use native.Mathlib.Omega.{arith}
+use lib.Dec.{eqb, leb}
+use lib.ListN.{length, getD, drop, take, replicate, length-replicate, length-drop, take-append-drop, getD-replicate}
+use lib.Seq.{drop-cons, ext-getD, getD-drop, take-add, take-at, drop-at, length-take-le, getD-append-add}
+use borrow.Author.Tests.{le-leb, lt-leb, eqb-true, eqb-false, eq-eqb, not-true, not-false}
+use Rattle.words.specs.Tables.{part}
+use Rattle.words.specs.Wrapping.{wrapSub}
+use Rattle.words.proofs.Cases.{by-test, by-dec, true-false, and-true, true-and}
+use Rattle.words.proofs.CountLaws.{one-if-le}
+use Rattle.runs.specs.PageWords.{mapped, rangeBit, frameIn, rightsIn}
+use Rattle.runs.specs.Walk.{joins, goesOn, wordBefore, runBefore, bitWord, withBits, ended, entryOf, entries, rangeWords, same, lawfulRanges}
+use Rattle.runs.specs.Steps.{Decides, EndFits, WordFits, zeroFrom}
+use Rattle.runs.proofs.WordLaws.{joins-at, goes-join, goes-new, bit-none, of-bit, bit-zero, zero-word, mapped-word, word-cases, lawful-word, own-bit}
+use Rattle.runs.proofs.StepLaws.{Walked, walk-start, run-le, at-length, Left, left-step, left-end, left-room, walk-step, stops-step, stops-end, bit-run, walk-end}
+use Rattle.runs.proofs.WalkLaws.{goes-zero, before-le, whole, whole-step, bit-at, withBits-at, length-withBits, ended-short, ended-long, ended-on, length-entry, last-mapped, last-none, before-word}
+
+pub same-refl : (xs : List ℕ) → same xs xs ≡ true
+unfolding same
+same-refl [] = refl
+same-refl (x ∷ xs) = rw (eq-eqb x x refl, same) (same-refl xs)
+
+same-at : (xs ys : List ℕ) → same xs ys ≡ true → xs ≡ ys
+unfolding same
+same-at [] [] t = refl
+same-at [] (y ∷ ys) t = true-false false t refl
+same-at (x ∷ xs) [] t = true-false false t refl
+same-at (x ∷ xs) (y ∷ ys) t =
+    by-test (eqb x y)
+    (λ e. ap₂ _∷_ (eqb-true x y e) (same-at xs ys (rw (e, same) at t)))
+    (λ e. true-false false (rw (e, same) at t) refl)
+
+-- a test that decides both equations is the definition
+pub decided : (ws rs : List ℕ) (r : Bool) → Decides r ((ws ≡ withBits ws) × (rs ≡ rangeWords ws)) → r ≡ lawfulRanges ws rs
+unfolding lawfulRanges
+decided ws rs true d =
+    let p = d .yes refl in
+    sym (true-and _ _ (ap (same ws) (sym (p .0)) ∙ same-refl ws) (ap (same rs) (sym (p .1)) ∙ same-refl rs))
+decided ws rs false d =
+    by-test (same ws (withBits ws) && same rs (rangeWords ws))
+    (λ t. let p = and-true _ _ t in absurd (d .no refl (same-at _ _ (p .0), same-at _ _ (p .1))))
+    (λ t. sym t)
+
+pub lawful-at : (ws rs : List ℕ) → lawfulRanges ws rs ≡ true → (ws ≡ withBits ws) × (rs ≡ rangeWords ws)
+unfolding lawfulRanges
+lawful-at ws rs t = let p = and-true _ _ t in (same-at _ _ (p .0), same-at _ _ (p .1))
+
+-- what the leaf functions show
+pub says-no : {P : Type 0} (r : Bool) → r ≡ false → (P → ⊥) → Decides r P
+says-no r e n = record { yes = λ t. true-false r t e; no = λ f p. n p }
+
+pub says-yes : {P : Type 0} (r : Bool) → r ≡ true → P → Decides r P
+says-yes r e p = record { yes = λ t. p; no = λ f q. true-false r e f }
+
+-- the four words of an entry, one by one
+four : (rs : List ℕ) (at : ℕ) → at + 4 ≤ length rs → part at 4 rs ≡ getD rs at 0 ∷ getD rs (at + 1) 0 ∷ getD rs (at + 2) 0 ∷ getD rs (at + 3) 0 ∷ []
+unfolding part
+four rs at r =
+    let a : at + 1 ≡ suc at = omega arith in
+    let b : at + 2 ≡ suc (suc at) = omega arith in
+    let c : at + 3 ≡ suc (suc (suc at)) = omega arith in
+    rw (a, b, c, drop-cons rs at 0 (omega arith), drop-cons rs (suc at) 0 (omega arith), drop-cons rs (suc (suc at)) 0 (omega arith), drop-cons rs (suc (suc (suc at))) 0 (omega arith)) refl
+
+pub entry-word : (rs : List ℕ) (at b n v k : ℕ) → at + 4 ≤ length rs → part at 4 rs ≡ entryOf b n v
+    → getD (getD rs at 0 ∷ getD rs (at + 1) 0 ∷ getD rs (at + 2) 0 ∷ getD rs (at + 3) 0 ∷ []) k 0 ≡ getD (entryOf b n v) k 0
+entry-word rs at b n v k r e = ap (λ (l : List ℕ). getD l k 0) (sym (four rs at r) ∙ e)
+
+pub last-word : (rs : List ℕ) (at b n v o r : ℕ) → at + 4 ≤ length rs → getD rs at 0 ≡ b - n → getD rs (at + 1) 0 ≡ b → getD rs (at + 2) 0 ≡ o → o ≡ wrapSub 32 (frameIn v) (b - 1) → r ≡ rightsIn v
+    → Decides (eqb (getD rs (at + 3) 0) r) (part at 4 rs ≡ entryOf b n v)
+unfolding entryOf
+last-word rs at b n v o r h x y z e f = record {
+  yes = λ t. four rs at h ∙ ap₂ _∷_ x (ap₂ _∷_ y (ap₂ _∷_ (z ∙ e) (ap₂ _∷_ (eqb-true _ _ t ∙ f) refl)));
+  no = λ t p. eqb-false _ _ t (entry-word rs at b n v 3 h p ∙ sym f);
+}
+
+-- equality of two bools
+beq-true : (a b : Bool) → Bool·beq a b ≡ true → a ≡ b
+beq-true true true t = refl
+beq-true true false t = true-false false t refl
+beq-true false true t = true-false false t refl
+beq-true false false t = refl
+
+beq-refl : (a : Bool) → Bool·beq a a ≡ true
+beq-refl true = refl
+beq-refl false = refl
+
+-- the three ways that a word fits
+pub word-none : (on : Bool) (v w : ℕ) → mapped w ≡ false → Decides (eqb w 0) (WordFits on v w)
+word-none on v w m = record {
+  yes = λ t. record { layout = zero-word w (eqb-true _ _ t); bit = λ o n. true-false (mapped w) n m };
+  no = λ t p. word-cases w (p .layout) (eqb-false _ _ t) (λ n. true-false (mapped w) n m);
+}
+
+pub word-on : (on : Bool) (v w : ℕ) (a b : Bool) → mapped w ≡ true → on ≡ true → a ≡ rangeBit w → b ≡ rangeBit v → Decides (Bool·beq a b) (WordFits on v w)
+word-on on v w a b m o x y = record {
+  yes = λ t. record { layout = mapped-word w m; bit = λ u n. sym x ∙ beq-true a b t ∙ y };
+  no = λ t p. let e : a ≡ b = x ∙ p .bit o m ∙ sym y in true-false (Bool·beq a b) (rw e (beq-refl b)) t;
+}
+
+pub word-new : (on : Bool) (v w : ℕ) → mapped w ≡ true → on ≡ false → WordFits on v w
+word-new on v w m o = record { layout = mapped-word w m; bit = λ t n. true-false on t o }
+
+-- the end of a run of eight or more pages with its bit
+pub end-entry : (rs : List ℕ) (on : Bool) (at b n v : ℕ) (r : Bool) → 8 ≤ n → rangeBit v ≡ true → on ≡ false → Decides r (part at 4 rs ≡ entryOf b n v) → Decides r (EndFits rs on at b n v)
+end-entry rs on at b n v r h t o d = record {
+  yes = λ y. record { bit = λ f. t ∙ sym (le-leb 8 n h); entry = λ f g. d .yes y };
+  no = λ y p. d .no y (p .entry o h);
+}
+
+pub end-short : (rs : List ℕ) (on : Bool) (at b n v : ℕ) (r : Bool) → n < 8 → on ≡ false → r ≡ rangeBit v → Decides (not r) (EndFits rs on at b n v)
+end-short rs on at b n v r h o e = record {
+  yes = λ t. record { bit = λ f. sym e ∙ not-true r t ∙ sym (lt-leb 8 n h); entry = λ f g. absurd (omega arith) };
+  no = λ t p. true-false r (not-false r t) (e ∙ p .bit o ∙ lt-leb 8 n h);
+}
+
+pub end-on : (rs : List ℕ) (on : Bool) (at b n v : ℕ) → on ≡ true → EndFits rs on at b n v
+end-on rs on at b n v t = record { bit = λ f. true-false on t f; entry = λ f. true-false on t f }
+
+pub end-wrong : (rs : List ℕ) (on : Bool) (at b n v : ℕ) → 8 ≤ n → rangeBit v ≡ false → on ≡ false → EndFits rs on at b n v → ⊥
+end-wrong rs on at b n v h f o p = true-false (rangeBit v) (p .bit o ∙ le-leb 8 n h) f
+
+pub zeros-end : (rs : List ℕ) (at j : ℕ) → at ≤ length rs → length rs ≤ j → ((q : ℕ) → at ≤ q → q < j → getD rs q 0 ≡ 0) → rs ≡ zeroFrom rs at
+unfolding zeroFrom
+zeros-end rs at j lo e h =
+    let z : drop at rs ≡ replicate (length rs - at) 0 =
+    ext-getD 0 (drop at rs) (replicate (length rs - at) 0) (length-drop at rs ∙ sym (length-replicate (length rs - at) 0)) (λ q lt.
+    let k : q < length rs - at = omega (arith, length-drop at rs) in
+    getD-drop at rs q 0 ∙ h (at + q) (omega arith) (omega arith) ∙ sym (getD-replicate (length rs - at) q 0 0 k))
+    in
+    sym (take-append-drop at rs) ∙ ap (λ (l : List ℕ). take at rs ++ l) z
+
+pub zeros-no : (rs : List ℕ) (at j : ℕ) → at ≤ j → j < length rs → (getD rs j 0 ≡ 0 → ⊥) → rs ≡ zeroFrom rs at → ⊥
+unfolding zeroFrom
+zeros-no rs at j lo hi ne e =
+    let l : length (take at rs) ≡ at = length-take-le at rs (omega arith) in
+    let k : length (take at rs) + (j - at) ≡ j = omega arith in
+    let g : getD (take at rs ++ replicate (length rs - at) 0) j 0 ≡ 0 =
+    rw (← k) (getD-append-add (take at rs) (replicate (length rs - at) 0) (j - at) 0 ∙ getD-replicate (length rs - at) (j - at) 0 0 (omega arith))
+    in
+    ne (ap (λ (x : List ℕ). getD x j 0) e ∙ g)
+
+pub zeros-more : (rs : List ℕ) (at j : ℕ) → getD rs j 0 ≡ 0 → ((q : ℕ) → at ≤ q → q < j → getD rs q 0 ≡ 0) → (q : ℕ) → at ≤ q → q < j + 1 → getD rs q 0 ≡ 0
+zeros-more rs at j z h q lo hi = by-dec (ℕ-discrete q j) (λ e. rw e z) (λ ne. h q lo (omega arith))
+
+-- The walk at page i: the pages before the run are settled, those of the run have the range bit of the last
+pub record Checking (ws rs : List ℕ) (i n v at : ℕ) : Type 0 where
+  pub walked : Walked ws rs i n v at
+  pub settled : (q : ℕ) → q + n < i → getD ws q 0 ≡ bit-at ws q
+  pub running : (q : ℕ) → i ≤ q + n → q < i → getD ws q 0 ≡ bitWord (rangeBit v) (getD ws q 0)
+
+pub check-start : (ws rs : List ℕ) → length ws ≡ 1024 → length rs ≡ 512 → Checking ws rs 0 0 0 0
+check-start ws rs e f = record { walked = walk-start ws rs e f; settled = λ q h. absurd (omega arith); running = λ q lo hi. absurd (omega arith) }
+
+module _ (ws rs : List ℕ) (i n v at : ℕ) (s : Checking ws rs i n v at) where
+  step-left : (on : Bool) (w : ℕ) → i < 1024 → w ≡ getD ws i 0 → on ≡ joins v w → Left _ _ _ _ _ _ (s .walked) on
+  step-left = left-step _ _ _ _ _ _ (s .walked)
+
+  pub check-room : (on : Bool) (w : ℕ) → i < 1024 → w ≡ getD ws i 0 → on ≡ joins v w → at + length (ended on i n v) ≤ 512
+  check-room on w h e o = left-room _ _ _ _ _ _ (s .walked) on (step-left on w h e o)
+
+  pub end-room : i ≡ 1024 → at + length (ended false i n v) ≤ 512
+  end-room h = left-room _ _ _ _ _ _ (s .walked) false (left-end _ _ _ _ _ _ (s .walked) h)
+
+  -- the words that are listed stand there
+  taken-more : (on : Bool) → at + length (ended on i n v) ≤ 512 → EndFits rs on at i n v → take (at + length (ended on i n v)) rs ≡ take at rs ++ ended on i n v
+  unfolding part
+  taken-more true r f = rw (ended-on i n v, add-zero at) (sym (append-nil (take at rs)))
+  taken-more false r f =
+      by-dec (decLe 8 n)
+      (λ h.
+      let four : length (ended false i n v) ≡ 4 = rw (ended-long i n v h) (length-entry i n v) in
+      rw (four, ended-long i n v h) (take-add at 4 rs ∙ ap (λ (l : List ℕ). take at rs ++ l) (f .entry refl h)))
+      (λ h. rw (ended-short i n v (omega arith), add-zero at) (sym (append-nil (take at rs))))
+
+  -- where the run ends, its pages have its range bit
+  all-right : whole ws i ≡ runBefore ws i → EndFits rs false at i n v → (q : ℕ) → q < i → getD ws q 0 ≡ bit-at ws q
+  all-right w f q lt =
+      by-dec (decLt (q + n) i) (λ before. s .settled q before)
+      (λ in-run. s .running q (omega arith) lt ∙ ap (λ (b : Bool). bitWord b (getD ws q 0)) (f .bit refl) ∙ sym (bit-run _ _ _ _ _ _ (s .walked) w q lt (omega arith)))
+
+  -- one page further
+  pub check-step : (on : Bool) (w m at′ : ℕ) → i < 1024 → w ≡ getD ws i 0 → on ≡ joins v w → EndFits rs on at i n v → WordFits on v w → m ≡ goesOn n v w → at′ ≡ at + length (ended on i n v)
+      → Checking ws rs (i + 1) m w at′
+  unfolding bit-at
+  check-step on w m at′ h e o f g mm p =
+      let le = run-le _ _ _ _ _ _ (s .walked) in
+      let room = check-room on w h e o in
+      let own : getD ws i 0 ≡ bitWord (rangeBit w) (getD ws i 0) = rw (← e) (own-bit w (g .layout)) in
+      record {
+        walked = walk-step _ _ _ _ _ _ (s .walked) rs on w m at′ h e o mm p (s .walked .table) (rw p (taken-more on room f));
+        settled = by-test on
+            (λ t q lt. s .settled q (omega (arith, goes-join n v w (sym o ∙ t))))
+            (λ t q lt.
+            by-dec (ℕ-discrete q i)
+            (λ same.
+            let z : mapped (getD ws i 0) ≡ false = ap mapped (sym e) ∙ goes-zero n v w (omega arith) in
+            rw same (own ∙ bit-none (rangeBit w) (getD ws i 0) z ∙ sym (bit-none (leb 8 (whole ws (suc i))) (getD ws i 0) z)))
+            (λ ne. all-right (stops-step _ _ _ _ _ _ (s .walked) w h e (sym o ∙ t)) (rw t at f) q (omega arith)));
+        running = λ q lo hi.
+            by-dec (ℕ-discrete q i)
+            (λ same. rw same own)
+            (λ ne. by-test on
+            (λ t.
+            s .running q (omega (arith, goes-join n v w (sym o ∙ t))) (omega arith)
+            ∙ ap (λ (b : Bool). bitWord b (getD ws q 0)) (sym (g .bit t (joins-at v w (sym o ∙ t) .next))))
+            (λ t. absurd (omega (arith, goes-new n v w (sym o ∙ t), one-if-le (mapped w)))));
+      }
+
+  -- Of a lawful space every test holds
+  module _ (pages : ws ≡ withBits ws) where
+    word-at : (q : ℕ) → q < 1024 → getD ws q 0 ≡ bit-at ws q
+    word-at q h = ap (λ (l : List ℕ). getD l q 0) pages ∙ withBits-at ws q (omega (arith, s .walked .size))
+
+    before-zero : mapped v ≡ false → v ≡ 0
+    unfolding wordBefore bit-at
+    before-zero m =
+        by-dec (decLe 1 i)
+        (λ pos.
+        let v-is : v ≡ getD ws (i - 1) 0 = s .walked .last ∙ before-word ws i pos in
+        v-is ∙ word-at (i - 1) (omega (arith, s .walked .inside)) ∙ bit-none _ (getD ws (i - 1) 0) (ap mapped (sym v-is) ∙ m))
+        (λ none. let z : i ≡ 0 = omega arith in s .walked .last ∙ ap (wordBefore ws) z)
+
+    bit-fits : whole ws i ≡ runBefore ws i → rangeBit v ≡ leb 8 n
+    bit-fits w =
+        by-dec (decLe 1 n)
+        (λ h.
+        let le = run-le _ _ _ _ _ _ (s .walked) in
+        let v-is : v ≡ getD ws (i - 1) 0 = s .walked .last ∙ before-word ws i (omega arith) in
+        let x : getD ws (i - 1) 0 ≡ bitWord (leb 8 n) (getD ws (i - 1) 0) = word-at (i - 1) (omega (arith, s .walked .inside)) ∙ bit-run _ _ _ _ _ _ (s .walked) w (i - 1) (omega arith) (omega arith) in
+        of-bit (leb 8 n) v (ap mapped (s .walked .last) ∙ last-mapped ws i (omega (arith, s .walked .run))) (rw v-is x))
+        (λ h.
+        let z : n ≡ 0 = omega arith in
+        let m : mapped v ≡ false = ap mapped (s .walked .last) ∙ last-none ws i (sym (s .walked .run) ∙ z) in
+        bit-zero v (before-zero m) ∙ sym (lt-leb 8 n (omega arith)))
+
+    module _ (words : rs ≡ rangeWords ws) where
+      entry-fits : (on : Bool) → Left _ _ _ _ _ _ (s .walked) on → on ≡ false → 8 ≤ n → part at 4 rs ≡ entryOf i n v
+      unfolding rangeWords part
+      entry-fits on x o h =
+          let four : ended on i n v ≡ entryOf i n v = rw o (ended-long i n v h) in
+          let z : List ℕ = replicate (512 - length (entries ws)) 0 in
+          let all : rs ≡ take at rs ++ (entryOf i n v ++ (x .more ++ z)) =
+          words ∙ ap (λ (l : List ℕ). l ++ z) (s .walked .listed ∙ ap (λ (l : List ℕ). take at rs ++ l) (x .is ∙ ap (λ (l : List ℕ). l ++ x .more) four))
+          ∙ append-assoc (take at rs) (entryOf i n v ++ x .more) z ∙ ap (λ (l : List ℕ). take at rs ++ l) (append-assoc (entryOf i n v) (x .more) z)
+          in
+          let d : drop at rs ≡ entryOf i n v ++ (x .more ++ z) = ap (drop at) all ∙ drop-at (take at rs) (entryOf i n v ++ (x .more ++ z)) at (at-length _ _ _ _ _ _ (s .walked)) in
+          ap (take 4) d ∙ take-at (entryOf i n v) (x .more ++ z) 4 (length-entry i n v)
+
+      pub end-holds : (on : Bool) (w : ℕ) → i < 1024 → w ≡ getD ws i 0 → on ≡ joins v w → EndFits rs on at i n v
+      end-holds on w h e o = record {
+        bit = λ f. bit-fits (stops-step _ _ _ _ _ _ (s .walked) w h e (sym o ∙ f));
+        entry = λ f g. entry-fits on (step-left on w h e o) f g;
+      }
+
+      pub last-holds : i ≡ 1024 → EndFits rs false at i n v
+      last-holds h = record { bit = λ f. bit-fits (stops-end _ _ _ _ _ _ (s .walked) h); entry = λ f g. entry-fits false (left-end _ _ _ _ _ _ (s .walked) h) f g }
+
+      pub word-holds : (on : Bool) (w : ℕ) → i < 1024 → w ≡ getD ws i 0 → on ≡ joins v w → WordFits on v w
+      unfolding bit-at
+      word-holds on w h e o = record {
+        layout = lawful-word (leb 8 (whole ws (suc i))) w (rw e (word-at i h));
+        bit = λ t ne.
+            let j = joins-at v w (sym o ∙ t) in
+            let pos : 1 ≤ i = by-dec (decLe 1 i) (λ y. y) (λ z. true-false _ (j .this) (ap mapped (s .walked .last) ∙ last-none ws i (omega (arith, before-le ws i)))) in
+            let v-is : v ≡ getD ws (i - 1) 0 = s .walked .last ∙ before-word ws i pos in
+            let k : suc (i - 1) ≡ i = omega arith in
+            let st : whole ws (suc i) ≡ whole ws i = whole-step ws i (omega (arith, s .walked .size)) (rw (← e, ← s .walked .last) (sym o ∙ t)) in
+            let x : getD ws (i - 1) 0 ≡ bitWord (leb 8 (whole ws (suc i))) (getD ws (i - 1) 0) = word-at (i - 1) (omega (arith, s .walked .inside)) ∙ ap (λ (y : ℕ). bitWord (leb 8 y) (getD ws (i - 1) 0)) (ap (whole ws) k ∙ sym st) in
+            let y : v ≡ bitWord (leb 8 (whole ws (suc i))) v = rw v-is x in
+            of-bit (leb 8 (whole ws (suc i))) w (j .next) (rw e (word-at i h)) ∙ sym (of-bit (leb 8 (whole ws (suc i))) v (j .this) y);
+      }
+
+  -- the end: what is left to look at are the zeros
+  pub check-end : (at′ : ℕ) (r : Bool) → i ≡ 1024 → EndFits rs false at i n v → at′ ≡ at + length (ended false i n v) → Decides r (rs ≡ zeroFrom rs at′) → r ≡ lawfulRanges ws rs
+  check-end at′ r h f p d =
+      let z = s .walked .size in
+      let words : zeroFrom rs at′ ≡ rangeWords ws = walk-end _ _ _ _ _ _ (s .walked) rs at′ h p (s .walked .table) (rw p (taken-more false (end-room h) f)) in
+      decided ws rs r (record {
+        yes = λ t. (
+          ext-getD 0 ws (withBits ws) (sym (length-withBits ws)) (λ q lt. all-right (stops-end _ _ _ _ _ _ (s .walked) h) f q (omega arith) ∙ sym (withBits-at ws q lt)),
+          d .yes t ∙ words,
+        );
+        no = λ t q. d .no t (q .1 ∙ sym words);
+      })
+
+  pub end-place : (at′ : ℕ) → i ≡ 1024 → at′ ≡ at + length (ended false i n v) → at′ ≤ length rs
+  end-place at′ h p = omega (arith, s .walked .table, end-room h)
+
+-- a test that failed
+pub refuted : (ws rs : List ℕ) → (ws ≡ withBits ws → rs ≡ rangeWords ws → ⊥) → false ≡ lawfulRanges ws rs
+refuted ws rs n = decided ws rs false (record { yes = λ t. true-false false t refl; no = λ t p. n (p .0) (p .1) })

@@ -1,0 +1,10 @@
+pub mod WordLaws
+pub mod OffsetLaws
+pub mod WalkLaws
+pub mod RunsLaws
+pub mod StepLaws
+pub mod RenewLaws
+pub mod CheckLaws
+pub mod PlainLaws
+pub mod ExactLaws
+pub mod EdgeCases

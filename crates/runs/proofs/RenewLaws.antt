@@ -1,0 +1,193 @@
+-- The walk that makes range bits and range words anew.
+use mathlib.Core.Path.{_≡_, refl, ap, _∙_, sym}
+use mathlib.Core.Bool.{Bool, true, false}
+use mathlib.Core.List.{List, [], _∷_, _++_, append-assoc, append-nil}
+use Prim.Native.Nat.{ℕ, suc, _+_, _-_, _<_, _≤_, zero-le}
+use native.Mathlib.Numerals.{add-one}
+use native.Mathlib.Decide.{decLt, decLe, ℕ-discrete}
+use native.Mathlib.Omega.{arith}
+use lib.Dec.{leb}
+use lib.ListN.{length, getD, drop, take, set, replicate, length-append, length-set, replicate-append-replicate}
+use lib.Seq.{ext-getD, getD-set-same, getD-set-other, sets, sets-eq, length-sets, take-at, take-all, take-suc-set}
+use borrow.Author.Tests.{le-leb, lt-leb}
+use Rattle.words.proofs.Cases.{by-test, by-dec}
+use Rattle.words.proofs.CountLaws.{one-if-le}
+use Rattle.runs.specs.PageWords.{mapped}
+use Rattle.runs.specs.Walk.{joins, goesOn, runBefore, bitWord, withBits, ended, entryOf, rangeWords}
+use Rattle.runs.specs.Steps.{Marked, zeroFrom, markedPages, EndedRun}
+use Rattle.runs.proofs.WordLaws.{bit-none, bit-bit, goes-join, goes-new}
+use Rattle.runs.proofs.StepLaws.{next-on, next-short, next-long, Walked, walk-start, run-le, at-length, left-step, left-end, left-room, walk-step, stops-step, stops-end, bit-run, walk-end}
+use Rattle.runs.proofs.WalkLaws.{goes-zero, whole, bit-at, withBits-at, length-withBits, ended-short, ended-long, ended-on}
+
+-- Marking, word by word
+pub mark-none : (xs : List ℕ) (a : ℕ) → Marked xs a 0 xs
+mark-none xs a = record { inside = λ q lo hi. absurd (omega arith); below = λ q h. refl; above = λ q h. refl }
+
+pub mark-more : (xs ys : List ℕ) (a k : ℕ) (x : ℕ) → a + k < length ys → Marked xs a k ys → x ≡ bitWord true (getD ys (a + k) 0) → Marked xs a (k + 1) (set ys (a + k) x)
+mark-more xs ys a k x h m e = record {
+  inside = λ q lo hi.
+      by-dec (ℕ-discrete q (a + k))
+      (λ same. rw same (getD-set-same ys (a + k) x 0 h ∙ e ∙ ap (bitWord true) (m .above (a + k) (omega arith))))
+      (λ other. getD-set-other ys (a + k) q x 0 other ∙ m .inside q lo (omega arith));
+  below = λ q lt. getD-set-other ys (a + k) q x 0 (λ s. omega arith) ∙ m .below q lt;
+  above = λ q le. getD-set-other ys (a + k) q x 0 (λ s. omega arith) ∙ m .above q (omega arith);
+}
+
+-- Zeros, word by word
+pub zero-none : (xs : List ℕ) (at : ℕ) → at ≤ length xs → take at xs ≡ take at xs ++ replicate (at - at) 0
+zero-none xs at h = let z : at - at ≡ 0 = omega arith in rw z (sym (append-nil _))
+
+pub zero-more : (xs ys : List ℕ) (at j : ℕ) → at ≤ j → j < length ys → take j ys ≡ take at xs ++ replicate (j - at) 0 → take (j + 1) (set ys j 0) ≡ take at xs ++ replicate (j + 1 - at) 0
+zero-more xs ys at j lo h e =
+    let s : j + 1 - at ≡ (j - at) + 1 = omega arith in
+    rw (add-one j, take-suc-set ys j 0 h, e, ← add-one j, s, ← replicate-append-replicate {A = ℕ} (j - at) 1 0) (append-assoc (take at xs) (replicate (j - at) 0) (0 ∷ []))
+
+pub zero-end : (xs ys : List ℕ) (at j : ℕ) → length ys ≡ length xs → j ≡ length ys → take j ys ≡ take at xs ++ replicate (j - at) 0 → ys ≡ zeroFrom xs at
+unfolding zeroFrom
+zero-end xs ys at j l e h =
+    sym (take-all j ys (omega arith)) ∙ h ∙ ap (λ (k : ℕ). take at xs ++ replicate (k - at) 0) (e ∙ l)
+
+-- an entry, word by word
+pub put-is : (xs : List ℕ) (at a b c d c′ d′ : ℕ) → c ≡ c′ → d ≡ d′ → set (set (set (set xs at a) (at + 1) b) (at + 2) c) (at + 3) d ≡ sets xs at (a ∷ b ∷ c′ ∷ d′ ∷ [])
+put-is xs at a b c d c′ d′ e f =
+    let p : at + 1 ≡ suc at = omega arith in
+    let q : at + 2 ≡ suc (suc at) = omega arith in
+    let r : at + 3 ≡ suc (suc (suc at)) = omega arith in
+    rw (p, q, r, e, f) refl
+
+-- the three ways that a run goes
+pub still-on : (xs rs : List ℕ) (on : Bool) (at b n v : ℕ) → on ≡ true → EndedRun xs rs on at b n v at xs rs
+unfolding markedPages
+still-on xs rs on at b n v t = record {
+  place = next-on on at b n v t;
+  table = rw (t, ended-on b n v) refl;
+  pages = rw t (mark-none xs (b - n));
+}
+
+pub too-short : (xs rs : List ℕ) (on : Bool) (at b n v : ℕ) → on ≡ false → n < 8 → EndedRun xs rs on at b n v at xs rs
+unfolding markedPages
+too-short xs rs on at b n v t h = record {
+  place = next-short on at b n v t h;
+  table = rw (t, ended-short b n v h) refl;
+  pages = rw (t, markedPages, lt-leb 8 n h) (mark-none xs (b - n));
+}
+
+pub long-run : (xs rs xs′ rs′ : List ℕ) (on : Bool) (at b n v : ℕ) → on ≡ false → 8 ≤ n → Marked xs (b - n) n xs′ → rs′ ≡ sets rs at (entryOf b n v) → EndedRun xs rs on at b n v (at + 4) xs′ rs′
+unfolding markedPages
+long-run xs rs xs′ rs′ on at b n v t h m w = record {
+  place = next-long on at b n v t h;
+  table = rw (t, ended-long b n v h) w;
+  pages = rw (t, markedPages, le-leb 8 n h) m;
+}
+
+none-marked : (xs xs′ : List ℕ) (a : ℕ) → Marked xs a 0 xs′ → (q : ℕ) → getD xs′ q 0 ≡ getD xs q 0
+none-marked xs xs′ a m q = by-dec (decLt q a) (λ b. m .below q b) (λ b. m .above q (omega arith))
+
+marked-le : (on : Bool) (n : ℕ) → markedPages on n ≤ n
+unfolding markedPages
+marked-le true n = zero-le
+marked-le false n = by-test (leb 8 n) (λ t. rw (t, markedPages) (omega arith)) (λ t. rw (t, markedPages) zero-le)
+
+-- The walk at page i: xs are the page words so far, ws those at the start
+pub record Renewing (ws xs rs : List ℕ) (i n v at : ℕ) : Type 0 where
+  pub walked : Walked ws rs i n v at
+  pub room : length xs ≡ 1024
+  -- the pages before the run are settled, those of the run have no range bit, those to come are as they were
+  pub settled : (q : ℕ) → q + n < i → getD xs q 0 ≡ bit-at ws q
+  pub running : (q : ℕ) → i ≤ q + n → q < i → getD xs q 0 ≡ bitWord false (getD ws q 0)
+  pub waiting : (q : ℕ) → i ≤ q → getD xs q 0 ≡ getD ws q 0
+
+pub renew-start : (ws rs : List ℕ) → length ws ≡ 1024 → length rs ≡ 512 → Renewing ws ws rs 0 0 0 0
+renew-start ws rs e f = record {
+  walked = walk-start ws rs e f;
+  room = e;
+  settled = λ q h. absurd (omega arith);
+  running = λ q lo hi. absurd (omega arith);
+  waiting = λ q h. refl;
+}
+
+module _ (ws xs rs : List ℕ) (i n v at : ℕ) (s : Renewing ws xs rs i n v at) where
+  pub room-step : (on : Bool) (w : ℕ) → i < 1024 → w ≡ getD xs i 0 → on ≡ joins v w → at + length (ended on i n v) ≤ 512
+  room-step on w h is o = left-room _ _ _ _ _ _ (s .walked) on (left-step _ _ _ _ _ _ (s .walked) on w h (is ∙ s .waiting i (omega arith)) o)
+
+  pub room-end : i ≡ 1024 → at + length (ended false i n v) ≤ 512
+  room-end h = left-room _ _ _ _ _ _ (s .walked) false (left-end _ _ _ _ _ _ (s .walked) h)
+
+  -- where the run ends, all pages before i are settled
+  all-settled : (xs′ : List ℕ) → whole ws i ≡ runBefore ws i → Marked xs (i - n) (markedPages false n) xs′ → (q : ℕ) → q < i → getD xs′ q 0 ≡ bit-at ws q
+  unfolding markedPages
+  all-settled xs′ w m q lt =
+      let le = run-le _ _ _ _ _ _ (s .walked) in
+      let at-end : i ≤ q + n → bit-at ws q ≡ bitWord (leb 8 n) (getD ws q 0) = bit-run _ _ _ _ _ _ (s .walked) w q lt in
+      by-dec (decLe 8 n)
+      (λ long.
+      let m′ : Marked xs (i - n) n xs′ = rw (le-leb 8 n long, markedPages) at m in
+      by-dec (decLt (q + n) i)
+      (λ before. m′ .below q (omega arith) ∙ s .settled q before)
+      (λ in-run.
+      m′ .inside q (omega arith) (omega arith) ∙ ap (bitWord true) (s .running q (omega arith) lt) ∙ bit-bit false true (getD ws q 0)
+      ∙ sym (at-end (omega arith) ∙ ap (λ (b : Bool). bitWord b (getD ws q 0)) (le-leb 8 n long))))
+      (λ short.
+      let f = lt-leb 8 n (omega arith) in
+      let m′ : Marked xs (i - n) 0 xs′ = rw (f, markedPages) at m in
+      none-marked xs xs′ (i - n) m′ q ∙ by-dec (decLt (q + n) i)
+      (λ before. s .settled q before)
+      (λ in-run. s .running q (omega arith) lt ∙ sym (at-end (omega arith) ∙ ap (λ (b : Bool). bitWord b (getD ws q 0)) f)))
+
+  -- the entries written so far
+  taken : (rs′ es : List ℕ) (at′ : ℕ) → at + length es ≤ 512 → at′ ≡ at + length es → rs′ ≡ sets rs at es → take at′ rs′ ≡ take at rs ++ es
+  taken rs′ es at′ h p e =
+      let z = s .walked .table in
+      let f : sets rs at es ≡ (take at rs ++ es) ++ drop (at + length es) rs = sets-eq es rs at (omega arith) in
+      let l : length (take at rs ++ es) ≡ at + length es = omega (arith, length-append (take at rs) es, at-length _ _ _ _ _ _ (s .walked)) in
+      rw (p, e, f) (take-at (take at rs ++ es) (drop (at + length es) rs) (at + length es) l)
+
+  kept : (rs′ es : List ℕ) → rs′ ≡ sets rs at es → length rs′ ≡ 512
+  kept rs′ es e = rw e (length-sets rs at es ∙ s .walked .table)
+
+  -- one page further
+  pub renew-step : (xs′ rs′ : List ℕ) (at′ w bw m : ℕ) (on : Bool) → i < 1024 → w ≡ getD xs i 0 → length xs′ ≡ 1024 → on ≡ joins v w → bw ≡ bitWord false w → m ≡ goesOn n v w
+      → EndedRun xs rs on at i n v at′ xs′ rs′ → Renewing ws (set xs′ i bw) rs′ (i + 1) m w at′
+  unfolding markedPages bit-at
+  renew-step xs′ rs′ at′ w bw m on h is len o e g r =
+      let le = run-le _ _ _ _ _ _ (s .walked) in
+      let here : w ≡ getD ws i 0 = is ∙ s .waiting i (omega arith) in
+      let word : getD (set xs′ i bw) i 0 ≡ bitWord false (getD ws i 0) = getD-set-same xs′ i bw 0 (omega arith) ∙ e ∙ ap (bitWord false) here in
+      let other : (q : ℕ) → (q ≡ i → ⊥) → getD (set xs′ i bw) q 0 ≡ getD xs′ q 0 = λ q ne. getD-set-other xs′ i q bw 0 ne in
+      record {
+        walked = walk-step _ _ _ _ _ _ (s .walked) rs′ on w m at′ h here o g (r .place) (kept rs′ (ended on i n v) (r .table)) (taken rs′ (ended on i n v) at′ (room-step on w h is o) (r .place) (r .table));
+        room = length-set xs′ i bw ∙ len;
+        settled = by-test on
+            (λ t q lt.
+            let k = goes-join n v w (sym o ∙ t) in
+            let u : Marked xs (i - n) 0 xs′ = rw (t, markedPages) at (r .pages) in
+            other q (omega arith) ∙ none-marked xs xs′ (i - n) u q ∙ s .settled q (omega arith))
+            (λ t q lt.
+            let u : Marked xs (i - n) (markedPages false n) xs′ = rw t at (r .pages) in
+            let end = stops-step _ _ _ _ _ _ (s .walked) w h here (sym o ∙ t) in
+            by-dec (ℕ-discrete q i)
+            (λ same.
+            let z : mapped (getD ws i 0) ≡ false = ap mapped (sym here) ∙ goes-zero n v w (omega arith) in
+            rw same (word ∙ bit-none false (getD ws i 0) z ∙ sym (bit-none (leb 8 (whole ws (suc i))) (getD ws i 0) z)))
+            (λ ne. other q ne ∙ all-settled xs′ end u q (omega arith)));
+        running = by-test on
+            (λ t q lo hi.
+            let k = goes-join n v w (sym o ∙ t) in
+            let u : Marked xs (i - n) 0 xs′ = rw (t, markedPages) at (r .pages) in
+            by-dec (ℕ-discrete q i) (λ same. rw same word) (λ ne. other q ne ∙ none-marked xs xs′ (i - n) u q ∙ s .running q (omega arith) (omega arith)))
+            (λ t q lo hi. by-dec (ℕ-discrete q i) (λ same. rw same word) (λ ne. absurd (omega (arith, goes-new n v w (sym o ∙ t), one-if-le (mapped w)))));
+        waiting = λ q le′. other q (omega arith) ∙ r .pages .above q (omega (arith, marked-le on n)) ∙ s .waiting q (omega arith);
+      }
+
+  -- the end
+  pub renew-pages : (xs′ rs′ : List ℕ) (at′ : ℕ) → i ≡ 1024 → length xs′ ≡ 1024 → EndedRun xs rs false at i n v at′ xs′ rs′ → xs′ ≡ withBits ws
+  renew-pages xs′ rs′ at′ e len r =
+      let z = s .walked .size in
+      ext-getD 0 xs′ (withBits ws) (len ∙ sym (length-withBits ws ∙ z)) (λ q h.
+      all-settled xs′ (stops-end _ _ _ _ _ _ (s .walked) e) (r .pages) q (omega arith) ∙ sym (withBits-at ws q (omega arith)))
+
+  pub renew-table : (xs′ rs′ rs″ : List ℕ) (at′ : ℕ) → i ≡ 1024 → EndedRun xs rs false at i n v at′ xs′ rs′ → rs″ ≡ zeroFrom rs′ at′ → rs″ ≡ rangeWords ws
+  renew-table xs′ rs′ rs″ at′ e r f = f ∙ walk-end _ _ _ _ _ _ (s .walked) rs′ at′ e (r .place) (kept rs′ (ended false i n v) (r .table)) (taken rs′ (ended false i n v) at′ (room-end e) (r .place) (r .table))
+
+  pub renew-place : (xs′ rs′ : List ℕ) (at′ : ℕ) → i ≡ 1024 → EndedRun xs rs false at i n v at′ xs′ rs′ → at′ ≤ length rs′
+  renew-place xs′ rs′ at′ e r = omega (arith, r .place, room-end e, kept rs′ (ended false i n v) (r .table))

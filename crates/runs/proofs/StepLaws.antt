@@ -1,0 +1,112 @@
+-- What both walks know at page i: the running length, the word before, and the entries up to there.
+use mathlib.Core.Path.{_≡_, refl, ap, ap₂, _∙_, sym}
+use mathlib.Core.Bool.{Bool, true, false}
+use mathlib.Core.List.{List, [], _++_, append-assoc, append-nil}
+use Prim.Native.Nat.{ℕ, suc, _+_, _-_, _<_, _≤_, zero-le}
+use native.Mathlib.Nat.{add-zero}
+use native.Mathlib.Numerals.{add-one}
+use native.Mathlib.Omega.{arith}
+use lib.Dec.{leb}
+use lib.ListN.{length, getD, drop, take, replicate, length-append}
+use lib.Seq.{length-take-le}
+use Rattle.runs.specs.Walk.{joins, goesOn, wordBefore, runBefore, bitWord, ended, entriesFrom, entries, rangeWords}
+use Rattle.runs.specs.Steps.{zeroFrom}
+use Rattle.runs.proofs.WalkLaws.{before-suc, before-le, whole, whole-end, whole-last, bit-at, bit-ended, entries-suc, entries-end, ended-short, ended-long, ended-on, length-entry, entries-few}
+
+-- the place of the next entry, in the three ways that a run goes
+pub next-on : (on : Bool) (at b n v : ℕ) → on ≡ true → at ≡ at + length (ended on b n v)
+next-on on at b n v t = rw (t, ended-on b n v) (sym (add-zero at))
+
+pub next-short : (on : Bool) (at b n v : ℕ) → on ≡ false → n < 8 → at ≡ at + length (ended on b n v)
+next-short on at b n v t h = rw (t, ended-short b n v h) (sym (add-zero at))
+
+pub next-long : (on : Bool) (at b n v : ℕ) → on ≡ false → 8 ≤ n → at + 4 ≡ at + length (ended on b n v)
+next-long on at b n v t h = rw (t, ended-long b n v h, length-entry b n v) refl
+
+-- room for the entry of a long run
+pub room-for : (on : Bool) (at b n v : ℕ) → on ≡ false → 8 ≤ n → at + length (ended on b n v) ≤ 512 → at + 4 ≤ 512
+room-for on at b n v t h r = omega (arith, next-long on at b n v t h)
+
+-- page words ws, the first `at` range words of rs
+pub record Walked (ws rs : List ℕ) (i n v at : ℕ) : Type 0 where
+  pub size : length ws ≡ 1024
+  pub table : length rs ≡ 512
+  pub inside : i ≤ 1024
+  pub run : n ≡ runBefore ws i
+  pub last : v ≡ wordBefore ws i
+  pub place : at ≤ 512
+  pub listed : entries ws ≡ take at rs ++ entriesFrom i n v (drop i ws)
+
+pub walk-start : (ws rs : List ℕ) → length ws ≡ 1024 → length rs ≡ 512 → Walked ws rs 0 0 0 0
+unfolding entries runBefore wordBefore
+walk-start ws rs e f = record { size = e; table = f; inside = zero-le; run = refl; last = refl; place = zero-le; listed = refl }
+
+module _ (ws rs : List ℕ) (i n v at : ℕ) (s : Walked ws rs i n v at) where
+  pub run-le : n ≤ i
+  run-le = omega (arith, s .run, before-le ws i)
+
+  pub at-length : length (take at rs) ≡ at
+  at-length = length-take-le at rs (omega (arith, s .table, s .place))
+
+  -- what is left starts with what is listed here
+  pub record Left (on : Bool) : Type 0 where
+    pub more : List ℕ
+    pub is : entriesFrom i n v (drop i ws) ≡ ended on i n v ++ more
+
+  pub left-step : (on : Bool) (w : ℕ) → i < 1024 → w ≡ getD ws i 0 → on ≡ joins v w → Left on
+  unfolding wordBefore
+  left-step on w h e o =
+      let c = entries-suc ws i (omega (arith, s .size)) in
+      record {
+        more = entriesFrom (suc i) (goesOn n v w) w (drop (suc i) ws);
+        is =
+            rw (o, e, s .run, s .last)
+            (c ∙ ap (λ (x : ℕ). ended (joins (wordBefore ws i) (getD ws i 0)) i (runBefore ws i) (wordBefore ws i) ++ entriesFrom (suc i) x (getD ws i 0) (drop (suc i) ws)) (before-suc ws i));
+      }
+
+  pub left-end : i ≡ 1024 → Left false
+  left-end h = record { more = []; is = rw (s .run, s .last) (entries-end ws i (omega (arith, s .size))) ∙ sym (append-nil (ended false i n v)) }
+
+  -- there is room for an entry
+  pub left-room : (on : Bool) → Left on → at + length (ended on i n v) ≤ 512
+  left-room on x =
+      let e : length (entries ws) ≡ length (take at rs ++ (ended on i n v ++ x .more)) = ap length (s .listed ∙ ap (λ (l : List ℕ). take at rs ++ l) (x .is)) in
+      omega (arith, e, at-length, entries-few ws (s .size), length-append (take at rs) (ended on i n v ++ x .more), length-append (ended on i n v) (x .more))
+
+  -- one page further
+  pub walk-step : (rs′ : List ℕ) (on : Bool) (w m at′ : ℕ) → i < 1024 → w ≡ getD ws i 0 → on ≡ joins v w → m ≡ goesOn n v w → at′ ≡ at + length (ended on i n v)
+      → length rs′ ≡ 512 → take at′ rs′ ≡ take at rs ++ ended on i n v → Walked ws rs′ (i + 1) m w at′
+  unfolding wordBefore left-step
+  walk-step rs′ on w m at′ h e o g p l t =
+      let x = left-step on w h e o in
+      let next : goesOn n v w ≡ runBefore ws (suc i) =
+      rw e (ap (λ (x : ℕ). goesOn x v (getD ws i 0)) (s .run) ∙ ap (λ (x : ℕ). goesOn (runBefore ws i) x (getD ws i 0)) (s .last) ∙ sym (before-suc ws i))
+      in
+      record {
+        size = s .size;
+        table = l;
+        inside = omega arith;
+        run = rw (add-one i) (g ∙ next);
+        last = rw (add-one i) e;
+        place = omega (arith, left-room on x);
+        listed = rw (t, add-one i, g) (s .listed ∙ ap (λ (l : List ℕ). take at rs ++ l) (x .is) ∙ sym (append-assoc (take at rs) (ended on i n v) (x .more)));
+      }
+
+  -- where a run ends
+  pub stops-step : (w : ℕ) → i < 1024 → w ≡ getD ws i 0 → joins v w ≡ false → whole ws i ≡ runBefore ws i
+  stops-step w h e t = whole-end ws i (omega (arith, s .size)) (rw (← e, ← s .last) t)
+
+  pub stops-end : i ≡ 1024 → whole ws i ≡ runBefore ws i
+  stops-end h = whole-last ws i (omega (arith, s .size))
+
+  pub bit-run : whole ws i ≡ runBefore ws i → (q : ℕ) → q < i → i ≤ q + n → bit-at ws q ≡ bitWord (leb 8 n) (getD ws q 0)
+  bit-run w q lt le = rw (s .run) (bit-ended ws i q (omega (arith, s .size, s .inside)) w lt (omega (arith, s .run)))
+
+  -- the end: the words taken are all entries, and zeros follow
+  pub walk-end : (rs′ : List ℕ) (at′ : ℕ) → i ≡ 1024 → at′ ≡ at + length (ended false i n v) → length rs′ ≡ 512 → take at′ rs′ ≡ take at rs ++ ended false i n v → zeroFrom rs′ at′ ≡ rangeWords ws
+  unfolding rangeWords zeroFrom left-end
+  walk-end rs′ at′ h p l t =
+      let x = left-end h in
+      let all : take at′ rs′ ≡ entries ws = t ∙ ap (λ (l : List ℕ). take at rs ++ l) (sym (x .is ∙ append-nil (ended false i n v))) ∙ sym (s .listed) in
+      let len : length (entries ws) ≡ at′ = sym (ap length all) ∙ length-take-le at′ rs′ (omega (arith, left-room false x)) in
+      ap₂ (λ (l : List ℕ) (k : ℕ). l ++ replicate k 0) all (ap₂ _-_ l (sym len))

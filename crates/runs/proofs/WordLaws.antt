@@ -1,0 +1,168 @@
+-- Page words: what they say, when one goes on the run of another, and the range bit set anew.
+use mathlib.Core.Path.{_≡_, refl, ap, _∙_, sym}
+use mathlib.Core.Bool.{Bool, true, false, _&&_}
+use Prim.Native.Nat.{ℕ, _+_, _*_, _/_, _%_, _<_}
+use native.Mathlib.Omega.{arith}
+use lib.Dec.{eqb}
+use borrow.Author.Tests.{eq-eqb, ne-eqb, eqb-true, eqb-false, le-leb}
+use Rattle.words.specs.Counts.{one-if}
+use Rattle.words.proofs.Cases.{by-test, true-false, and-true, true-and}
+use Rattle.runs.specs.PageWords.{pageWord, mapped, rangeBit, rightsIn, frameIn, allowedRights, isPageWord}
+use Rattle.runs.specs.Walk.{joins, goesOn, bitWord}
+
+is-mapped : (w : ℕ) → w / 65536 ≡ 1 → mapped w ≡ true
+unfolding mapped
+is-mapped w e = eq-eqb _ _ e
+
+mapped-at : (w : ℕ) → mapped w ≡ true → w / 65536 ≡ 1
+unfolding mapped
+mapped-at w t = eqb-true _ _ t
+
+pub zero-unmapped : (w : ℕ) → w ≡ 0 → mapped w ≡ false
+unfolding mapped
+zero-unmapped w e = ne-eqb (w / 65536) 1 (omega arith)
+
+pub frame-lt : (w : ℕ) → frameIn w < 4096
+unfolding frameIn
+frame-lt w = omega arith
+
+pub rights-lt : (w : ℕ) → rightsIn w < 8
+unfolding rightsIn
+rights-lt w = omega arith
+
+pub record Joins (v w : ℕ) : Type 0 where
+  pub this : mapped v ≡ true
+  pub next : mapped w ≡ true
+  pub frame : frameIn w ≡ frameIn v + 1
+  pub rights : rightsIn w ≡ rightsIn v
+
+pub joins-at : (v w : ℕ) → joins v w ≡ true → Joins v w
+unfolding joins
+joins-at v w t =
+    let a = and-true _ _ t in
+    let b = and-true _ _ (a .1) in
+    let c = and-true _ _ (b .1) in
+    record { this = a .0; next = b .0; frame = eqb-true _ _ (c .0); rights = eqb-true _ _ (c .1) }
+
+pub join : (v w : ℕ) → Joins v w → joins v w ≡ true
+unfolding joins
+join v w j = true-and _ _ (j .this) (true-and _ _ (j .next) (true-and _ _ (eq-eqb _ _ (j .frame)) (eq-eqb _ _ (j .rights))))
+
+pub not-joins : (v w : ℕ) → (Joins v w → ⊥) → false ≡ joins v w
+not-joins v w n = by-test (joins v w) (λ t. absurd (n (joins-at v w t))) (λ t. sym t)
+
+pub by-rights : (v w : ℕ) → mapped v ≡ true → mapped w ≡ true → frameIn w ≡ frameIn v + 1 → eqb (rightsIn w) (rightsIn v) ≡ joins v w
+unfolding joins
+by-rights v w a b e = rw (a, b, eq-eqb _ _ e)
+
+pub goes-join : (n v w : ℕ) → joins v w ≡ true → goesOn n v w ≡ n + 1
+unfolding goesOn
+goes-join n v w t = rw (t, goesOn)
+
+pub goes-new : (n v w : ℕ) → joins v w ≡ false → goesOn n v w ≡ one-if (mapped w)
+unfolding goesOn
+goes-new n v w t = rw (t, goesOn)
+
+pub bit-none : (b : Bool) (w : ℕ) → mapped w ≡ false → bitWord b w ≡ 0
+unfolding bitWord
+bit-none b w e = rw (e, bitWord)
+
+pub bit-mapped : (b : Bool) (w : ℕ) → mapped w ≡ true → bitWord b w ≡ pageWord b (rightsIn w) (frameIn w)
+unfolding bitWord
+bit-mapped b w m = rw (m, bitWord)
+
+low-bits : (w : ℕ) → 4096 * (w / 4096 % 8) + w % 4096 ≡ w % 32768
+low-bits w = omega arith
+
+bit-on : (b : Bool) (w : ℕ) → mapped w ≡ true → b ≡ true → bitWord b w ≡ 98304 + w % 32768
+unfolding pageWord one-if rightsIn frameIn
+bit-on b w m e = bit-mapped b w m ∙ rw e (omega (arith, low-bits w))
+
+bit-off : (b : Bool) (w : ℕ) → mapped w ≡ true → b ≡ false → bitWord b w ≡ 65536 + w % 32768
+unfolding pageWord one-if rightsIn frameIn
+bit-off b w m e = bit-mapped b w m ∙ rw e (omega (arith, low-bits w))
+
+-- what a range bit leaves alone
+pub record Like (w x : ℕ) : Type 0 where
+  pub maps : mapped x ≡ mapped w
+  pub frame : mapped w ≡ true → frameIn x ≡ frameIn w
+  pub rights : mapped w ≡ true → rightsIn x ≡ rightsIn w
+  pub low : mapped w ≡ true → x % 32768 ≡ w % 32768
+
+like-by : (w x k : ℕ) → mapped w ≡ true → x ≡ k * 32768 + w % 32768 → k / 2 ≡ 1 → Like w x
+unfolding frameIn rightsIn
+like-by w x k m e h = record {
+  maps = is-mapped x (omega arith) ∙ sym m;
+  frame = λ t. omega arith;
+  rights = λ t. omega arith;
+  low = λ t. omega arith;
+}
+
+pub like-bit : (b : Bool) (w : ℕ) → Like w (bitWord b w)
+like-bit b w =
+    by-test (mapped w)
+    (λ m.
+    by-test b
+    (λ u. like-by w (bitWord b w) 3 m (omega (arith, bit-on b w m u)) refl)
+    (λ u. like-by w (bitWord b w) 2 m (omega (arith, bit-off b w m u)) refl))
+    (λ f. record {
+      maps = zero-unmapped _ (bit-none b w f) ∙ sym f;
+      frame = λ t. true-false _ t f;
+      rights = λ t. true-false _ t f;
+      low = λ t. true-false _ t f;
+    })
+
+-- a range bit set anew
+pub bit-bit : (a b : Bool) (w : ℕ) → bitWord b (bitWord a w) ≡ bitWord b w
+bit-bit a b w =
+    let k = like-bit a w in
+    by-test (mapped w)
+    (λ m.
+    let n = k .maps ∙ m in
+    let e : bitWord a w % 32768 ≡ w % 32768 = k .low m in
+    by-test b
+    (λ u. bit-on b (bitWord a w) n u ∙ ap (λ (y : ℕ). 98304 + y) e ∙ sym (bit-on b w m u))
+    (λ u. bit-off b (bitWord a w) n u ∙ ap (λ (y : ℕ). 65536 + y) e ∙ sym (bit-off b w m u)))
+    (λ f. bit-none b (bitWord a w) (k .maps ∙ f) ∙ sym (bit-none b w f))
+
+-- A word of the layout is the one with its own range bit
+bit-of : (w : ℕ) → mapped w ≡ true → w ≡ bitWord (rangeBit w) w
+unfolding rangeBit
+bit-of w m =
+    let l = mapped-at w m in
+    by-test (eqb (w / 32768 % 2) 1)
+    (λ t. let e : w / 32768 % 2 ≡ 1 = eqb-true _ _ t in let s : w ≡ 98304 + w % 32768 = omega arith in s ∙ sym (bit-on _ w m t))
+    (λ t. let e : (w / 32768 % 2 ≡ 1 → ⊥) = eqb-false _ _ t in let s : w ≡ 65536 + w % 32768 = omega arith in s ∙ sym (bit-off _ w m t))
+
+pub of-bit : (b : Bool) (w : ℕ) → mapped w ≡ true → w ≡ bitWord b w → rangeBit w ≡ b
+unfolding rangeBit
+of-bit true w m e = let s : w ≡ 98304 + w % 32768 = e ∙ bit-on true w m refl in let k : w / 32768 ≡ 3 = omega arith in ap (λ (x : ℕ). eqb (x % 2) 1) k
+of-bit false w m e = let s : w ≡ 65536 + w % 32768 = e ∙ bit-off false w m refl in let k : w / 32768 ≡ 2 = omega arith in ap (λ (x : ℕ). eqb (x % 2) 1) k
+
+pub bit-zero : (w : ℕ) → w ≡ 0 → rangeBit w ≡ false
+unfolding rangeBit
+bit-zero w e = ne-eqb (w / 32768 % 2) 1 (omega arith)
+
+-- the layout
+pub zero-word : (w : ℕ) → w ≡ 0 → isPageWord w ≡ true
+unfolding isPageWord
+zero-word w e = rw (eq-eqb _ _ e) refl
+
+pub mapped-word : (w : ℕ) → mapped w ≡ true → isPageWord w ≡ true
+unfolding isPageWord allowedRights
+mapped-word w m =
+    let r = le-leb (rightsIn w) 7 (omega (arith, rights-lt w)) in
+    by-test (eqb w 0) (λ t. rw t refl) (λ f. rw (f, m, r) refl)
+
+pub word-cases : {P : Type 0} (w : ℕ) → isPageWord w ≡ true → (w ≡ 0 → P) → (mapped w ≡ true → P) → P
+unfolding isPageWord
+word-cases w t z m =
+    by-test (eqb w 0) (λ e. z (eqb-true _ _ e)) (λ f.
+    let u : (mapped w && allowedRights (rightsIn w)) ≡ true = rw f at t in
+    m (and-true _ _ u .0))
+
+pub lawful-word : (b : Bool) (w : ℕ) → w ≡ bitWord b w → isPageWord w ≡ true
+lawful-word b w e = by-test (mapped w) (λ m. mapped-word w m) (λ f. zero-word w (e ∙ bit-none b w f))
+
+pub own-bit : (w : ℕ) → isPageWord w ≡ true → w ≡ bitWord (rangeBit w) w
+own-bit w t = word-cases w t (λ z. z ∙ sym (bit-none (rangeBit w) w (zero-unmapped w z))) (λ m. bit-of w m)

@@ -1,0 +1,4 @@
+pub mod PageWords
+pub mod Runs
+pub mod Walk
+pub mod Steps

@@ -1,0 +1,61 @@
+-- Runs and ranges of one space. Document 01, Ranges and What the host lends. `ws` are the space's 1,024 page words, `rs` its 512 range words.
+use mathlib.Core.Path.{_≡_}
+use mathlib.Core.Bool.{true}
+use mathlib.Core.List.{List, [], _∷_, _++_}
+use Prim.Native.Nat.{ℕ, suc, _+_, _-_, _^_, _≤_, _<_}
+use lib.ListN.{length, getD, replicate}
+use Rattle.words.specs.Wrapping.{wrapAdd}
+use Rattle.runs.specs.PageWords.{mapped, rangeBit, rightsIn, frameIn, isPageWord}
+
+-- "A run is consecutive mapped pages with consecutive frames and equal rights": pages x up to y, y left out
+pub record Run (ws : List ℕ) (x y : ℕ) : Type 0 where
+  pub some : x < y
+  pub fits : y ≤ length ws
+  pub maps : (p : ℕ) → x ≤ p → p < y → mapped (getD ws p 0) ≡ true
+  pub frames : (p : ℕ) → x ≤ p → p < y → frameIn (getD ws p 0) ≡ frameIn (getD ws x 0) + (p - x)
+  pub rights : (p : ℕ) → x ≤ p → p < y → rightsIn (getD ws p 0) ≡ rightsIn (getD ws x 0)
+
+-- a longest run: no run holds its pages and more
+pub record Longest (ws : List ℕ) (x y : ℕ) : Type 0 where
+  pub run : Run ws x y
+  pub alone : (a b : ℕ) → a ≤ x → y ≤ b → Run ws a b → (a ≡ x) × (b ≡ y)
+
+-- page p is in a range: in one of "the longest runs of at least 8 pages"
+pub record InRange (ws : List ℕ) (p : ℕ) : Type 0 where
+  pub first : ℕ
+  pub end : ℕ
+  pub longest : Longest ws first end
+  pub eight : first + 8 ≤ end
+  pub from : first ≤ p
+  pub to : p < end
+
+-- "OFFSET is a 32-bit word: frame = page + OFFSET modulo 4,294,967,296": so o gives the frame, and r the rights, of each page from x up to y
+pub record Gives (ws : List ℕ) (x y o r : ℕ) : Type 0 where
+  pub word : o < 2 ^ 32
+  pub frame : (p : ℕ) → x ≤ p → p < y → frameIn (getD ws p 0) ≡ wrapAdd 32 p o
+  pub rights : (p : ℕ) → x ≤ p → p < y → rightsIn (getD ws p 0) ≡ r
+
+-- "128 entries of four words for each space: BASE, LIMIT, OFFSET, rights. LIMIT is not covered." "Entries ascend by BASE":
+-- each entry is a longest run of at least 8 pages, and no BASE lies below a
+pub data Table (ws : List ℕ) : ℕ → List ℕ → Type 0 where
+  nothing : {a : ℕ} → Table ws a []
+  entry : {a : ℕ} (x y o r : ℕ) {more : List ℕ} → a ≤ x → x + 8 ≤ y → Longest ws x y → Gives ws x y o r → Table ws (suc x) more → Table ws a (x ∷ y ∷ o ∷ r ∷ more)
+
+-- an entry has BASE x and LIMIT y
+pub data Has (x y : ℕ) : List ℕ → Type 0 where
+  here : {o r : ℕ} {more : List ℕ} → Has x y (x ∷ y ∷ o ∷ r ∷ more)
+  later : {a b o r : ℕ} {more : List ℕ} → Has x y more → Has x y (a ∷ b ∷ o ∷ r ∷ more)
+
+-- "The range table lists exactly the longest runs of at least 8 pages; the range bit marks their pages."
+pub record RangesSound (ws rs : List ℕ) : Type 0 where
+  pub words : (p : ℕ) → p < length ws → isPageWord (getD ws p 0) ≡ true
+  -- the range bit of a mapped page is set exactly where the page is in a range
+  pub marks : (p : ℕ) → InRange ws p → rangeBit (getD ws p 0) ≡ true
+  pub marked : (p : ℕ) → mapped (getD ws p 0) ≡ true → rangeBit (getD ws p 0) ≡ true → InRange ws p
+  -- "unused ones are zero": the used entries come first, zeros follow
+  pub used : List ℕ
+  pub unused : ℕ
+  pub split : rs ≡ used ++ replicate unused 0
+  -- each used entry is a range, and each range has its entry
+  pub listed : Table ws 0 used
+  pub all : (x y : ℕ) → Longest ws x y → x + 8 ≤ y → Has x y used

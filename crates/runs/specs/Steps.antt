@@ -1,0 +1,50 @@
+-- What the inner functions of `ranges` promise: each a step of the walk over one space.
+use mathlib.Core.Path.{_≡_}
+use mathlib.Core.Bool.{Bool, true, false}
+use mathlib.Core.List.{List, _++_}
+use Prim.Native.Nat.{ℕ, _+_, _-_, _≤_, _<_}
+use lib.Dec.{leb}
+use lib.ListN.{length, getD, take, replicate}
+use lib.Seq.{sets}
+use Rattle.words.specs.Tables.{part}
+use Rattle.runs.specs.PageWords.{mapped, rangeBit, isPageWord}
+use Rattle.runs.specs.Walk.{bitWord, entryOf, ended}
+
+-- a test that decides a statement
+pub record Decides (r : Bool) (P : Type 0) : Type 0 where
+  pub yes : r ≡ true → P
+  pub no : r ≡ false → P → ⊥
+
+-- Making anew
+
+-- the words of n pages from page a on have the range bit, and every other is as it was
+pub record Marked (xs : List ℕ) (a n : ℕ) (ys : List ℕ) : Type 0 where
+  pub inside : (q : ℕ) → a ≤ q → q < a + n → getD ys q 0 ≡ bitWord true (getD xs q 0)
+  pub below : (q : ℕ) → q < a → getD ys q 0 ≡ getD xs q 0
+  pub above : (q : ℕ) → a + n ≤ q → getD ys q 0 ≡ getD xs q 0
+
+-- the words xs with zeros from place `at` on
+unfoldable pub zeroFrom : List ℕ → ℕ → List ℕ
+zeroFrom xs at = take at xs ++ replicate (length xs - at) 0
+
+-- how many pages are marked where a run of n pages ends, or goes on
+unfoldable pub markedPages : Bool → ℕ → ℕ
+markedPages on n = elim on [ true ↦ 0 | false ↦ elim (leb 8 n) [ true ↦ n | false ↦ 0 ] ]
+
+-- before page b the run of n pages ends, or goes on: r is the place of the next entry
+pub record EndedRun (xs rs : List ℕ) (on : Bool) (at b n v r : ℕ) (xs′ rs′ : List ℕ) : Type 0 where
+  pub place : r ≡ at + length (ended on b n v)
+  pub table : rs′ ≡ sets rs at (ended on b n v)
+  pub pages : Marked xs (b - n) (markedPages on n) xs′
+
+-- Checking
+
+-- where the run of n pages ends before page b, at word v: the range bit of its last page is right, and so is the entry at place `at`
+pub record EndFits (rs : List ℕ) (on : Bool) (at b n v : ℕ) : Type 0 where
+  pub bit : on ≡ false → rangeBit v ≡ leb 8 n
+  pub entry : on ≡ false → 8 ≤ n → part at 4 rs ≡ entryOf b n v
+
+-- word w after word v is of the layout, and if mapped has the range bit of v where it goes on the run
+pub record WordFits (on : Bool) (v w : ℕ) : Type 0 where
+  pub layout : isPageWord w ≡ true
+  pub bit : on ≡ true → mapped w ≡ true → rangeBit w ≡ rangeBit v
