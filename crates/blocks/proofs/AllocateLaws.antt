@@ -16,6 +16,7 @@ use Rattle.words.specs.Counts.{count}
 use Rattle.words.proofs.Cases.{by-test, by-dec, true-false, and-true, true-and}
 use Rattle.words.proofs.TableLaws.{length-tabFrom, getD-tabFrom}
 use Rattle.words.proofs.CountLaws.{count-some}
+use Rattle.words.specs.Writes.{CountedUp}
 use Rattle.blocks.specs.declared.Block.{Block}
 use Rattle.blocks.specs.declared.Bound.{Bound}
 use Rattle.blocks.specs.Blocks.{inBlock}
@@ -24,7 +25,7 @@ use Rattle.blocks.specs.Choice.{takeBlock, without, takeBlocks, framesOf
 use Rattle.blocks.specs.Owners.{put, give}
 use Rattle.blocks.specs.Calls.{Taken}
 use Rattle.blocks.specs.Around.{startOf}
-use Rattle.blocks.specs.Passes.{asBlock, Searched, boundAfter, CountedUp, Begins, handed}
+use Rattle.blocks.specs.Passes.{asBlock, Searched, boundAfter, Begins, handed}
 use Rattle.blocks.proofs.AroundLaws.{in-block}
 use Rattle.blocks.proofs.WordLaws.{owners-small, lawful-is, lawful-yes, lawful-table, owners-high, owners-again, table-lawful, block-word}
 use Rattle.blocks.proofs.ChoiceLaws.{Took, Taking, taking, one, end, took-free, took-start, took-count, fuel}

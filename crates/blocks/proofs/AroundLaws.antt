@@ -3,7 +3,7 @@ use mathlib.Core.Path.{_≡_, refl, ap, _∙_, sym}
 use mathlib.Core.Bool.{Bool, true, false, not}
 use mathlib.Core.Option.{Option, some}
 use Prim.Native.Nat.{ℕ, suc, _+_, _*_, _/_, _%_, _^_, _-_, _<_, _≤_, zero-le}
-use native.Mathlib.Nat.{div-add-mod', mod-lt, div-one, pow-suc, mul-assoc, mod-eq-of-lt, one-mul}
+use native.Mathlib.Nat.{div-add-mod', mod-lt, div-one, mul-assoc}
 use native.Mathlib.Decide.{decLe}
 use native.Mathlib.Omega.{arith}
 use lib.Arith.{digits-div}
@@ -18,25 +18,8 @@ use Rattle.blocks.specs.Around.{startOf, around, freeOrder}
 
 -- sizes
 
-pub double : (k : ℕ) → 2 ^ k + 2 ^ k ≡ 2 ^ (k + 1)
-double k = let s : k + 1 ≡ suc k = omega arith in rw (s, pow-suc) (omega arith)
-
 pub order-size : (k : ℕ) → k ≤ 10 → 2 ^ k ≤ 1024
 order-size k h = pow-mono h
-
-pub pow-less : (m k : ℕ) → m < k → 2 ^ m < 2 ^ k
-pow-less m k h =
-    let a : 2 ^ (m + 1) ≤ 2 ^ k = pow-mono (omega arith) in
-    let d = double m in
-    let p : 0 < 2 ^ m = pow-pos m in
-    omega arith
-
--- a shift of 1 by an order, in a word of w bits
-pub shift-one : (w k : ℕ) → k ≤ 10 → 10 < w → 1 * 2 ^ k % 2 ^ w ≡ 2 ^ k
-shift-one w k h hw =
-    let m : 2 ^ k < 2 ^ w = pow-less k w (omega arith) in
-    let e : 1 * 2 ^ k ≡ 2 ^ k = one-mul (2 ^ k) in
-    rw e (mod-eq-of-lt m)
 
 -- starts
 

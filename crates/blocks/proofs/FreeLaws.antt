@@ -15,10 +15,11 @@ use Rattle.words.specs.Searches.{anyFrom, allFrom}
 use Rattle.words.proofs.Cases.{by-test, by-dec, true-false, and-true, true-and}
 use Rattle.words.proofs.CountLaws.{one-if-le}
 use Rattle.words.proofs.SearchLaws.{at-any, any-none, any-more, allFrom-at, at-allFrom, some-fails}
+use Rattle.words.specs.Writes.{sameIn}
 use Rattle.blocks.specs.FrameWords.{ownerOf, ownersOf, freeOf, freeIn, frameWords}
 use Rattle.blocks.specs.Choice.{framesFor, blocksFor}
 use Rattle.blocks.specs.Owners.{put, give, inSpan, cleared, freed, holds}
-use Rattle.blocks.specs.Passes.{ClearedTo, MarkedOne, MarkedTo, sameIn}
+use Rattle.blocks.specs.Passes.{ClearedTo, MarkedOne, MarkedTo}
 use Rattle.blocks.proofs.WordLaws.{owner-low, owner-high, owners-small, free-zero, Lawful, lawful-table, owners-high, owners-again, words-ext}
 use Rattle.blocks.proofs.ChoiceLaws.{Good, takes-good, takes-all}
 use Rattle.blocks.proofs.AllocateLaws.{put-same, put-other}

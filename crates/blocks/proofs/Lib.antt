@@ -9,3 +9,4 @@ pub mod AllocateLaws
 pub mod FreeLaws
 pub mod CallLaws
 pub mod EdgeCases
+pub mod Published

@@ -13,6 +13,7 @@ use borrow.Author.Tests.{leb-true, le-leb, lt-leb, eqb-true, eq-eqb, ne-eqb, lt-
 use Rattle.words.specs.Searches.{largest, firstFrom, is-some}
 use Rattle.words.proofs.Cases.{by-test, by-dec, true-false, none-some, not-there}
 use Rattle.words.proofs.SearchLaws.{First, found, missing, firstFrom-is, first-unique, first-none, Largest, greatest, nothing, largest-is, largest-unique, largest-none, some-is, none-is}
+use Rattle.words.proofs.PowerLaws.{double}
 use Rattle.blocks.specs.declared.Block.{Block}
 use Rattle.blocks.specs.declared.Bound.{Bound}
 use Rattle.blocks.specs.Blocks.{block, freeBlock}
@@ -20,7 +21,7 @@ use Rattle.blocks.specs.FrameWords.{freeIn, lawful}
 use Rattle.blocks.specs.Choice.{lowest, serving, isServed, orderFor, cutAt, takeFrom, takeOrder, takeBlock, without}
 use Rattle.blocks.specs.Around.{startOf, around}
 use Rattle.blocks.specs.Passes.{orderWithin, orderAt, least, asBlock, Clear, Searched, scanFrom, boundAfter}
-use Rattle.blocks.proofs.AroundLaws.{double, around-at, at-around, without-free}
+use Rattle.blocks.proofs.AroundLaws.{around-at, at-around, without-free}
 use Rattle.blocks.proofs.FreeBlockLaws.{BlockAt, free-block-at, at-free-block, in-block-at}
 use Rattle.blocks.proofs.WordLaws.{lawful-is, word-block, no-block}
 use Rattle.blocks.proofs.ChoiceLaws.{lowest-at, at-lowest, serving-at, at-serving, at-served, takeOrder-eq}

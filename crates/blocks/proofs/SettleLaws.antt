@@ -3,67 +3,24 @@ use mathlib.Core.Path.{_≡_, refl, ap, _∙_, sym}
 use mathlib.Core.Bool.{Bool, true, false}
 use mathlib.Core.List.{List}
 use mathlib.Core.Option.{some}
-use Prim.Native.Nat.{ℕ, suc, _+_, _/_, _%_, _^_, _-_, _<_, _≤_, zero-le}
+use Prim.Native.Nat.{ℕ, _+_, _/_, _%_, _^_, _-_, _<_, _≤_, zero-le}
 use native.Mathlib.Decide.{decLt, decLe, ℕ-discrete}
 use native.Mathlib.Omega.{arith}
 use lib.ListN.{length, getD, set}
 use lib.Seq.{getD-set-same, getD-set-other}
 use lib.Pow.{pow-pos}
-use borrow.Author.Tests.{eqb-true, eq-eqb, ne-eqb}
+use borrow.Author.Tests.{eqb-true, eq-eqb}
 use Rattle.words.specs.Searches.{allFrom}
 use Rattle.words.proofs.Cases.{by-test, by-dec, true-false}
 use Rattle.words.proofs.TableLaws.{is-tabulate}
 use Rattle.words.proofs.SearchLaws.{allFrom-at, at-allFrom, some-fails}
+use Rattle.words.specs.Writes.{Filled, sameIn}
+use Rattle.words.proofs.PowerLaws.{double}
 use Rattle.blocks.specs.FrameWords.{ownerOf, ownersOf, freeIn, lawful, frameWord, frameWords}
 use Rattle.blocks.specs.Around.{startOf, around, freeOrder, orderWord}
-use Rattle.blocks.specs.Passes.{Edge, Filled, SettledTo, Checked, sameIn}
-use Rattle.blocks.proofs.AroundLaws.{double, mod-start, start-mod, finer, coarser, in-block, block-in, start-same, around-at, at-around, around-same, smaller, around-ext, free-around, Maximal, order-here, maximal-order, maximal-same}
+use Rattle.blocks.specs.Passes.{Edge, SettledTo, Checked}
+use Rattle.blocks.proofs.AroundLaws.{mod-start, start-mod, finer, coarser, in-block, block-in, start-same, around-at, at-around, around-same, smaller, around-ext, free-around, Maximal, order-here, maximal-order, maximal-same}
 use Rattle.blocks.proofs.WordLaws.{owner-low, owner-high, owners-small, free-same, free-zero, is-held, start-word, other-word, free-frame, held-word, high-word, word-ext, words-ext, owner-back, lawful-yes, lawful-no}
-
--- single words
-
-pub is-same : (b : List ℕ) (v g : ℕ) → getD b g 0 ≡ v → sameIn b v g ≡ true
-unfolding sameIn
-is-same b v g e = eq-eqb _ _ e
-
-pub is-other : (b : List ℕ) (v g : ℕ) → (getD b g 0 ≡ v → ⊥) → sameIn b v g ≡ false
-unfolding sameIn
-is-other b v g e = ne-eqb _ _ e
-
--- a run that is filled
-
-pub fill-none : (b : List ℕ) (s v : ℕ) → Filled b s s v b
-fill-none b s v = record { inside = λ g lo hi. absurd (omega arith); below = λ g h. refl; above = λ g h. refl }
-
-pub fill-more : (b : List ℕ) (s e v : ℕ) (b′ : List ℕ) → s ≤ e → e < length b′ → Filled b s e v b′ → Filled b s (e + 1) v (set b′ e v)
-fill-more b s e v b′ se h f =
-    record {
-      inside = λ g lo hi. by-dec (ℕ-discrete g e)
-          (λ ge. rw ge (getD-set-same b′ e v 0 h))
-          (λ ne. getD-set-other b′ e g v 0 ne ∙ f .inside g lo (omega arith));
-      below = λ g lt. getD-set-other b′ e g v 0 (λ x. omega arith) ∙ f .below g lt;
-      above = λ g le. getD-set-other b′ e g v 0 (λ x. omega arith) ∙ f .above g (omega arith);
-    }
-
--- all of a range, one turn
-
-module _ (p : ℕ → Bool) (g e : ℕ) (h : g < e) where
-  pub all-step : p g ≡ true → allFrom (e - g) g p ≡ allFrom (e - (g + 1)) (g + 1) p
-  unfolding allFrom
-  all-step t =
-      let s : e - g ≡ suc (e - (g + 1)) = omega arith in
-      let n : suc g ≡ g + 1 = omega arith in
-      rw (s, t, allFrom, n)
-
-  pub all-stop : p g ≡ false → false ≡ allFrom (e - g) g p
-  unfolding allFrom
-  all-stop t =
-      let s : e - g ≡ suc (e - (g + 1)) = omega arith in
-      rw (s, t, allFrom)
-
-pub all-end : (p : ℕ → Bool) (g e : ℕ) → e ≤ g → true ≡ allFrom (e - g) g p
-unfolding allFrom
-all-end p g e h = let s : e - g ≡ 0 = omega arith in rw s
 
 -- edges
 

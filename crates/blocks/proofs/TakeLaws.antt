@@ -14,30 +14,17 @@ use borrow.Author.Tests.{ne-eqb}
 use Rattle.words.proofs.Cases.{by-test, by-dec}
 use Rattle.words.proofs.TableLaws.{is-tabulate}
 use Rattle.words.proofs.SearchLaws.{largest-ext}
+use Rattle.words.specs.Writes.{CountedUp}
+use Rattle.words.proofs.PowerLaws.{pow-less}
 use Rattle.blocks.specs.Blocks.{inBlock}
 use Rattle.blocks.specs.FrameWords.{ownersOf, freeOf, freeIn, lawful, frameWord, frameWords}
 use Rattle.blocks.specs.Choice.{without}
 use Rattle.blocks.specs.Around.{startOf, around, freeOrder, orderWord}
-use Rattle.blocks.specs.Passes.{CountedUp, Halved, Begins, handed}
-use Rattle.blocks.proofs.AroundLaws.{pow-less, order-size, finer, start-next, coarser, in-block, block-in, start-same, is-inBlock, not-inBlock, around-at, Maximal, maximal-order, maximal-same, outside, upper-half}
+use Rattle.blocks.specs.Passes.{Halved, Begins, handed}
+use Rattle.blocks.proofs.AroundLaws.{order-size, finer, start-next, coarser, in-block, block-in, start-same, is-inBlock, not-inBlock, around-at, Maximal, maximal-order, maximal-same, outside, upper-half}
 use Rattle.blocks.proofs.FreeBlockLaws.{BlockAt}
 use Rattle.blocks.proofs.WordLaws.{free-at, free-zero, start-word, other-word, free-frame, held-word, high-word, Lawful, lawful-is, word-block}
 use Rattle.blocks.proofs.SettleLaws.{block-end}
-
--- words that count up
-
-pub count-none : (b : List ℕ) (s v : ℕ) → CountedUp b s s v b
-count-none b s v = record { inside = λ g lo hi. absurd (omega arith); below = λ g h. refl; above = λ g h. refl }
-
-pub count-more : (b : List ℕ) (s e v w : ℕ) (b′ : List ℕ) → s ≤ e → e < length b′ → w ≡ v + (e - s) → CountedUp b s e v b′ → CountedUp b s (e + 1) v (set b′ e w)
-count-more b s e v w b′ se h ve f =
-    record {
-      inside = λ g lo hi. by-dec (ℕ-discrete g e)
-          (λ ge. rw ge (getD-set-same b′ e w 0 h ∙ ve))
-          (λ ne. getD-set-other b′ e g w 0 ne ∙ f .inside g lo (omega arith));
-      below = λ g lt. getD-set-other b′ e g w 0 (λ x. omega arith) ∙ f .below g lt;
-      above = λ g le. getD-set-other b′ e g w 0 (λ x. omega arith) ∙ f .above g (omega arith);
-    }
 
 -- first words of upper halves
 

@@ -22,12 +22,6 @@ use Rattle.blocks.specs.Around.{startOf, around}
 pub record Edge (F : ℕ) (free : ℕ → Bool) (f : ℕ) : Type 0 where
   pub starts : (m : ℕ) → m ≤ 10 → around F free f m ≡ true → startOf m f ≡ f
 
--- the words from s up to e, e left out, are v, and every other is as it was
-pub record Filled (b : List ℕ) (s e v : ℕ) (b′ : List ℕ) : Type 0 where
-  pub inside : (g : ℕ) → s ≤ g → g < e → getD b′ g 0 ≡ v
-  pub below : (g : ℕ) → g < s → getD b′ g 0 ≡ getD b g 0
-  pub above : (g : ℕ) → e ≤ g → getD b′ g 0 ≡ getD b g 0
-
 -- the words from f up to r are those that the owners ask for, and every other is as it was; a free block starts at r or none holds it
 pub record SettledTo (F : ℕ) (b : List ℕ) (f r : ℕ) (b′ : List ℕ) : Type 0 where
   pub on : f < r
@@ -41,10 +35,6 @@ pub record SettledTo (F : ℕ) (b : List ℕ) (f r : ℕ) (b′ : List ℕ) : Ty
 pub record Checked (F : ℕ) (b : List ℕ) (f r : ℕ) : Type 0 where
   pub good : (r ≡ 0 → ⊥) → SettledTo F b f r b
   pub bad : r ≡ 0 → (g : ℕ) × (g < F) × (getD b g 0 ≡ frameWord F (ownersOf b) g → ⊥)
-
--- the word at g is v
-unfoldable pub sameIn : List ℕ → ℕ → ℕ → Bool
-sameIn b v g = eqb (getD b g 0) v
 
 -- Choosing: the orders in the sequence in which they are tried, so that the first that has a free block decides
 
@@ -82,12 +72,6 @@ unfoldable pub boundAfter : Bound → Block → ℕ → Bound
 boundAfter x b left = elim (orderWithin left) [ none ↦ x | some w ↦ elim (ltb (b .order) w) [ true ↦ record { limit = b .order; from = b .start } | false ↦ x ] ]
 
 -- Taking
-
--- the words from s up to e are v, v + 1, .., and every other is as it was
-pub record CountedUp (b : List ℕ) (s e v : ℕ) (b′ : List ℕ) : Type 0 where
-  pub inside : (g : ℕ) → s ≤ g → g < e → getD b′ g 0 ≡ v + (g - s)
-  pub below : (g : ℕ) → g < s → getD b′ g 0 ≡ getD b g 0
-  pub above : (g : ℕ) → e ≤ g → getD b′ g 0 ≡ getD b g 0
 
 -- the upper halves of orders i up to j, j left out, of the block at s have their first words
 pub record Halved (b : List ℕ) (s i j : ℕ) (b′ : List ℕ) : Type 0 where

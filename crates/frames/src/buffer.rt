@@ -3,8 +3,8 @@ ghost use mathlib.Core.Path.{_≡_};
 ghost use Prim.Native.Nat.{ℕ, _+_, _-_, _^_, _≤_, _<_};
 ghost use lib.ListN.{length};
 ghost use Rattle.words.specs.Searches.{allFrom};
+ghost use Rattle.words.specs.Writes.{sameIn, Filled, CountedUp};
 ghost use Rattle.blocks.specs.FrameWords.{ownerOf, freeIn};
-ghost use Rattle.blocks.specs.Passes.{sameIn, Filled, CountedUp};
 
 // The owner that a frame word names, 0 for a free frame.
 pub fn owner_of(w: u32) -> u32

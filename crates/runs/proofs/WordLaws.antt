@@ -1,7 +1,7 @@
 -- Page words: what they say, when one goes on the run of another, and the range bit set anew.
 use mathlib.Core.Path.{_≡_, refl, ap, _∙_, sym}
 use mathlib.Core.Bool.{Bool, true, false, _&&_}
-use Prim.Native.Nat.{ℕ, _+_, _*_, _/_, _%_, _<_}
+use Prim.Native.Nat.{ℕ, _+_, _*_, _/_, _%_, _<_, _≤_}
 use native.Mathlib.Omega.{arith}
 use lib.Dec.{eqb}
 use borrow.Author.Tests.{eq-eqb, ne-eqb, eqb-true, eqb-false, le-leb}
@@ -166,3 +166,14 @@ lawful-word b w e = by-test (mapped w) (λ m. mapped-word w m) (λ f. zero-word 
 
 pub own-bit : (w : ℕ) → isPageWord w ≡ true → w ≡ bitWord (rangeBit w) w
 own-bit w t = word-cases w t (λ z. z ∙ sym (bit-none (rangeBit w) w (zero-unmapped w z))) (λ m. bit-of w m)
+
+-- what a page word made of a range bit, rights and a frame says
+pub record Says (w r f : ℕ) : Type 0 where
+  pub maps : mapped w ≡ true
+  pub rights : rightsIn w ≡ r
+  pub frame : frameIn w ≡ f
+
+pub made-word : (b : Bool) (r f : ℕ) → r ≤ 7 → f ≤ 4095 → Says (pageWord b r f) r f
+unfolding pageWord rightsIn frameIn one-if
+made-word true r f hr hf = record { maps = is-mapped (65536 + 32768 * 1 + 4096 * r + f) (omega arith); rights = omega arith; frame = omega arith }
+made-word false r f hr hf = record { maps = is-mapped (65536 + 32768 * 0 + 4096 * r + f) (omega arith); rights = omega arith; frame = omega arith }

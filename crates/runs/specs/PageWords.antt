@@ -1,6 +1,6 @@
 -- Page words. Document 01, What the host lends: "Pages, 4,096 words, 1,024 for each of spaces 0 to 3: 0 = unmapped; else 65,536 + 32,768 × range bit + 4,096 × rights + frame.
 -- Rights add read 1, write 2, execute 4; 0 to 7 are allowed."
-use mathlib.Core.Bool.{Bool, true, false, _&&_, _||_}
+use mathlib.Core.Bool.{Bool, _&&_, _||_}
 use Prim.Native.Nat.{ℕ, _+_, _*_, _/_, _%_}
 use lib.Dec.{leb, eqb}
 use Rattle.words.specs.Counts.{one-if}

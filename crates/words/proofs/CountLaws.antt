@@ -1,12 +1,14 @@
 -- Laws of counts.
-use mathlib.Core.Path.{_≡_, refl, ap, ap₂, sym}
-use mathlib.Core.Bool.{Bool, true, false, not}
+use mathlib.Core.Path.{_≡_, refl, ap, ap₂, sym, _∙_}
+use mathlib.Core.Bool.{Bool, true, false, not, _&&_}
 use Prim.Native.Nat.{ℕ, zero, suc, _+_, _-_, _<_, _≤_, zero-le}
 use native.Mathlib.Nat.{add-zero, add-suc, not-suc-le-zero}
 use native.Mathlib.Decide.{ℕ-discrete}
 use native.Mathlib.Omega.{arith}
+use lib.Dec.{eqb}
+use borrow.Author.Tests.{eq-eqb, ne-eqb}
 use Rattle.words.specs.Counts.{count, one-if}
-use Rattle.words.proofs.Cases.{by-test, by-dec}
+use Rattle.words.proofs.Cases.{by-test, by-dec, true-false}
 
 pub one-if-le : (b : Bool) → one-if b ≤ 1
 unfolding one-if
@@ -102,3 +104,67 @@ count-some (suc n) p h =
     by-test (p n)
     (λ e. (n, omega arith, e))
     (λ e. let r = count-some n p (omega (arith, ap one-if e)) in (r .0, omega (arith, r .1), r .2))
+
+-- counting by a pairing: f and g pair the places of p below n with those of q below m
+pub record Pairs (n m : ℕ) (p q : ℕ → Bool) (f g : ℕ → ℕ) : Type 0 where
+  pub there : (i : ℕ) → i < n → p i ≡ true → (f i < m) × (q (f i) ≡ true) × (g (f i) ≡ i)
+  pub back : (j : ℕ) → j < m → q j ≡ true → (g j < n) × (p (g j) ≡ true) × (f (g j) ≡ j)
+
+-- q without place k
+but : (ℕ → Bool) → ℕ → ℕ → Bool
+but q k j = q j && not (eqb j k)
+
+but-other : (q : ℕ → Bool) (k j : ℕ) → (j ≡ k → ⊥) → q j ≡ but q k j
+unfolding but
+but-other q k j n = by-test (q j) (λ t. rw (t, ne-eqb j k n)) (λ t. rw t)
+
+but-at : (q : ℕ → Bool) (k : ℕ) → but q k k ≡ false
+unfolding but
+but-at q k = by-test (q k) (λ t. rw (t, eq-eqb k k refl)) (λ t. rw t)
+
+but-says : (q : ℕ → Bool) (k j : ℕ) → but q k j ≡ true → (q j ≡ true) × (j ≡ k → ⊥)
+but-says q k j t =
+    by-dec (ℕ-discrete j k)
+    (λ e. true-false (but q k j) t (rw e (but-at q k)))
+    (λ ne. (but-other q k j ne ∙ t, ne))
+
+-- a pairing without its last pair
+pairs-fewer : (n m : ℕ) (p q : ℕ → Bool) (f g : ℕ → ℕ) → p n ≡ true → Pairs (suc n) m p q f g → Pairs n m p (but q (f n)) f g
+pairs-fewer n m p q f g t x =
+    let a = x .there n (omega arith) t in
+    record {
+      there = λ i h e.
+          let b = x .there i (omega arith) e in
+          let ne : (f i ≡ f n → ⊥) = λ s. let z : i ≡ n = sym (b .2) ∙ ap g s ∙ a .2 in omega arith in
+          (b .0, sym (but-other q (f n) (f i) ne) ∙ b .1, b .2);
+      back = λ j h e.
+          let c = but-says q (f n) j e in
+          let b = x .back j h (c .0) in
+          let ne : (g j ≡ n → ⊥) = λ s. c .1 (sym (b .2) ∙ ap f s) in
+          let lt : g j < suc n = b .0 in
+          (omega arith, b .1, b .2);
+    }
+
+pairs-shorter : (n m : ℕ) (p q : ℕ → Bool) (f g : ℕ → ℕ) → p n ≡ false → Pairs (suc n) m p q f g → Pairs n m p q f g
+pairs-shorter n m p q f g t x =
+    record {
+      there = λ i h e. x .there i (omega arith) e;
+      back = λ j h e.
+          let b = x .back j h e in
+          let ne : (g j ≡ n → ⊥) = λ s. true-false (p n) (sym (ap p s) ∙ b .1) t in
+          let lt : g j < suc n = b .0 in
+          (omega arith, b .1, b .2);
+    }
+
+pub count-pairs : (n m : ℕ) (p q : ℕ → Bool) (f g : ℕ → ℕ) → Pairs n m p q f g → count n p ≡ count m q
+unfolding count one-if
+count-pairs zero m p q f g x =
+    sym (none-pass m q (λ j h. by-test (q j) (λ t. let b = x .back j h t .0 in absurd (not-suc-le-zero b)) (λ t. t)))
+count-pairs (suc n) m p q f g x =
+    by-test (p n)
+    (λ t.
+    let a = x .there n (omega arith) t in
+    let rest = count-pairs n m p (but q (f n)) f g (pairs-fewer n m p q f g t x) in
+    let one = count-add-one m (but q (f n)) q (f n) (a .0) (but-at q (f n)) (a .1) (λ j h ne. sym (but-other q (f n) j ne)) in
+    rw t (omega (arith, rest, one)))
+    (λ t. rw t (omega (arith, count-pairs n m p q f g (pairs-shorter n m p q f g t x))))

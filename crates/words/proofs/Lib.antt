@@ -4,3 +4,5 @@ pub mod CountLaws
 pub mod SearchLaws
 pub mod RefusalLaws
 pub mod WrappingLaws
+pub mod WriteLaws
+pub mod PowerLaws

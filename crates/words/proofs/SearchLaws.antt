@@ -4,7 +4,7 @@ use mathlib.Core.Bool.{Bool, true, false}
 use mathlib.Core.List.{List, [], _∷_}
 use mathlib.Core.Option.{Option, none, some}
 use Prim.Native.Nat.{ℕ, zero, suc, _+_, _-_, _<_, _≤_}
-use native.Mathlib.Nat.{add-zero, le-of-suc-le-suc, not-suc-le-zero}
+use native.Mathlib.Nat.{add-zero, zero-add, le-of-suc-le-suc, not-suc-le-zero}
 use native.Mathlib.Decide.{decLt, ℕ-discrete}
 use native.Mathlib.Omega.{arith}
 use lib.ListN.{length, getD}
@@ -32,6 +32,26 @@ some-fails (suc n) i p e =
     by-test (p i)
     (λ t. let r = some-fails n (suc i) p (rw (t, allFrom) at e) in let lo = r .1 in let hi = r .2 in (r .0, omega arith, omega arith, r .3))
     (λ t. (i, omega arith, omega arith, t))
+
+-- all of a range, turn by turn
+
+module _ (p : ℕ → Bool) (g e : ℕ) (h : g < e) where
+  pub all-step : p g ≡ true → allFrom (e - g) g p ≡ allFrom (e - (g + 1)) (g + 1) p
+  unfolding allFrom
+  all-step t =
+      let s : e - g ≡ suc (e - (g + 1)) = omega arith in
+      let n : suc g ≡ g + 1 = omega arith in
+      rw (s, t, allFrom, n)
+
+  pub all-stop : p g ≡ false → false ≡ allFrom (e - g) g p
+  unfolding allFrom
+  all-stop t =
+      let s : e - g ≡ suc (e - (g + 1)) = omega arith in
+      rw (s, t, allFrom)
+
+pub all-end : (p : ℕ → Bool) (g e : ℕ) → e ≤ g → true ≡ allFrom (e - g) g p
+unfolding allFrom
+all-end p g e h = let s : e - g ≡ 0 = omega arith in rw s
 
 -- one passes
 
@@ -86,6 +106,17 @@ at-every f d [] i h = refl
 at-every f d (x ∷ xs) i h =
     let first : f i x ≡ true = rw add-zero at (h 0 (omega arith)) in
     rw (first, every) (at-every f d xs (suc i) (λ k hk. let s : i + suc k ≡ suc i + k = omega arith in rw s at (h (suc k) (omega arith))))
+
+-- the test on a list is the test on its places
+pub every-all : {A : Type 0} (f : ℕ → A → Bool) (d : A) (l : List A) → every f 0 l ≡ allFrom (length l) 0 (λ k. f k (getD l k d))
+every-all f d l =
+    by-test (allFrom (length l) 0 (λ k. f k (getD l k d)))
+    (λ t. at-every f d l 0 (λ k h. rw (zero-add k) (allFrom-at (length l) 0 _ t k (omega arith) (omega arith))) ∙ sym t)
+    (λ n. by-test (every f 0 l)
+    (λ t. let g = some-fails (length l) 0 _ n in
+    let h : g .0 < 0 + length l = g .2 in
+    true-false (f (g .0) (getD l (g .0) d)) (rw (zero-add (g .0)) at (every-at f d l 0 t (g .0) (omega arith))) (g .3))
+    (λ e. e ∙ sym n))
 
 pub data First (n i : ℕ) (p : ℕ → Bool) : Option ℕ → Type 0 where
   found : (k : ℕ) → i ≤ k → k < i + n → p k ≡ true → ((j : ℕ) → i ≤ j → j < k → p j ≡ false) → First n i p (some k)

@@ -1,4 +1,5 @@
 use borrow.Author.Needs.{needs}
+use Rattle.words.proofs.SearchLaws.{all-step, all-stop, all-end}
 use Rattle.frames.proofs.buffer.all_free.Statement.{statement}
 use Rattle.frames.proofs.buffer.all_free.Tie as tie
 use mathlib.Core.Path.{_≡_, refl, sym, _∙_}
@@ -7,7 +8,6 @@ use native.Mathlib.Omega.{arith}
 use Rattle.words.specs.Searches.{allFrom}
 use Rattle.blocks.specs.FrameWords.{freeIn}
 use Rattle.blocks.proofs.WordLaws.{is-free, is-held}
-use Rattle.blocks.proofs.SettleLaws.{all-step, all-stop, all-end}
 
 abbrev Inv-loop : tie.InvT-loop
 Inv-loop frames from end g₀ g = (g ≤ end) × ((from ≤ g) × (allFrom (end - from) from (freeIn frames) ≡ allFrom (end - g) g (freeIn frames)))

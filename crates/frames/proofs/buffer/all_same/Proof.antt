@@ -1,12 +1,13 @@
 use borrow.Author.Needs.{needs}
+use Rattle.words.specs.Writes.{sameIn}
+use Rattle.words.proofs.WriteLaws.{is-same, is-other}
+use Rattle.words.proofs.SearchLaws.{all-step, all-stop, all-end}
 use Rattle.frames.proofs.buffer.all_same.Statement.{statement}
 use Rattle.frames.proofs.buffer.all_same.Tie as tie
 use mathlib.Core.Path.{_≡_, refl, sym, _∙_}
 use Prim.Native.Nat.{_≤_, _-_}
 use native.Mathlib.Omega.{arith}
 use Rattle.words.specs.Searches.{allFrom}
-use Rattle.blocks.specs.Passes.{sameIn}
-use Rattle.blocks.proofs.SettleLaws.{is-same, is-other, all-step, all-stop, all-end}
 
 abbrev Inv-loop : tie.InvT-loop
 Inv-loop words from end v g₀ g = (g ≤ end) × ((from ≤ g) × (allFrom (end - from) from (sameIn words v) ≡ allFrom (end - g) g (sameIn words v)))

@@ -1,12 +1,12 @@
 use borrow.Author.Needs.{needs}
+use Rattle.words.specs.Writes.{CountedUp}
+use Rattle.words.proofs.WriteLaws.{count-none, count-more}
 use Rattle.frames.proofs.buffer.count_up.Statement.{statement}
 use Rattle.frames.proofs.buffer.count_up.Tie as tie
 use mathlib.Core.Path.{_≡_, refl}
 use Prim.Native.Nat.{_≤_, _-_, _+_}
 use native.Mathlib.Omega.{arith}
 use lib.ListN.{length, length-set}
-use Rattle.blocks.specs.Passes.{CountedUp}
-use Rattle.blocks.proofs.TakeLaws.{count-none, count-more}
 
 abbrev Inv-loop : tie.InvT-loop
 Inv-loop words₀ from end first g₀ v₀ words g v = (g ≤ end) × ((from ≤ g) × ((length words ≡ length words₀) × ((v ≡ first + (g - from)) × CountedUp words₀ from g first words)))

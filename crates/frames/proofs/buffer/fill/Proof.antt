@@ -1,12 +1,12 @@
 use borrow.Author.Needs.{needs}
+use Rattle.words.specs.Writes.{Filled}
+use Rattle.words.proofs.WriteLaws.{fill-none, fill-more}
 use Rattle.frames.proofs.buffer.fill.Statement.{statement}
 use Rattle.frames.proofs.buffer.fill.Tie as tie
 use mathlib.Core.Path.{_≡_, refl}
 use Prim.Native.Nat.{_≤_, _-_}
 use native.Mathlib.Omega.{arith}
 use lib.ListN.{length, length-set}
-use Rattle.blocks.specs.Passes.{Filled}
-use Rattle.blocks.proofs.SettleLaws.{fill-none, fill-more}
 
 abbrev Inv-loop : tie.InvT-loop
 Inv-loop words₀ from end v g₀ words g = (g ≤ end) × ((from ≤ g) × ((length words ≡ length words₀) × Filled words₀ from g v words))

@@ -1,10 +1,11 @@
 use borrow.Author.Needs.{needs}
+use Rattle.words.proofs.PowerLaws.{double}
 use Rattle.frames.proofs.choosing.order_within.Statement.{statement}
 use Rattle.frames.proofs.choosing.order_within.Tie as tie
 use mathlib.Core.Path.{_≡_, refl, ap, _∙_}
 use Prim.Native.Nat.{ℕ, _≤_, _-_, _+_, _^_}
 use native.Mathlib.Omega.{arith}
-use Rattle.blocks.proofs.AroundLaws.{order-size, double}
+use Rattle.blocks.proofs.AroundLaws.{order-size}
 use Rattle.blocks.proofs.SearchedLaws.{order-up, order-top}
 
 abbrev Inv-loop : tie.InvT-loop

@@ -1,4 +1,5 @@
 use borrow.Author.Needs.{needs}
+use Rattle.words.proofs.PowerLaws.{double}
 use Rattle.frames.proofs.settling.grow.Statement.{statement}
 use Rattle.frames.proofs.settling.grow.Tie as tie
 use mathlib.Core.Path.{_≡_, refl, sym, ap, _∙_}
@@ -8,7 +9,7 @@ use mathlib.Core.Bool.{true}
 use borrow.Author.Tests.{not-true, not-false}
 use Rattle.blocks.specs.FrameWords.{freeIn}
 use Rattle.blocks.specs.Around.{around}
-use Rattle.blocks.proofs.AroundLaws.{order-size, double}
+use Rattle.blocks.proofs.AroundLaws.{order-size}
 use Rattle.blocks.proofs.SettleLaws.{start-zero, no-more, odd-start, past-end, not-clear, grown}
 
 abbrev Inv-loop : tie.InvT-loop

@@ -1,4 +1,5 @@
 use borrow.Author.Needs.{needs}
+use Rattle.words.proofs.PowerLaws.{pow-less}
 use Rattle.frames.proofs.taking.halve.Statement.{statement}
 use Rattle.frames.proofs.taking.halve.Tie as tie
 use mathlib.Core.Path.{_≡_, refl}
@@ -6,7 +7,6 @@ use Prim.Native.Nat.{_≤_, _-_}
 use native.Mathlib.Omega.{arith}
 use lib.ListN.{length, length-set}
 use Rattle.blocks.specs.Passes.{Halved}
-use Rattle.blocks.proofs.AroundLaws.{pow-less}
 use Rattle.blocks.proofs.TakeLaws.{halves-none, halves-more}
 
 abbrev Inv-loop : tie.InvT-loop

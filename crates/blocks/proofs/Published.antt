@@ -10,14 +10,14 @@ use lib.ListN.{length, getD}
 use Rattle.words.specs.Counts.{count}
 use Rattle.words.specs.Searches.{anyFrom}
 use Rattle.words.proofs.Cases.{by-dec}
 use Rattle.blocks.specs.declared.Block.{Block}
-use Rattle.blocks.specs.FrameWords.{isOwner, ownerOf, ownersOf, freeIn, lawful, frameWords}
+use Rattle.blocks.specs.FrameWords.{isPoolSize, isOwner, ownerOf, ownersOf, freeOf, freeIn, lawful, frameWords}
 use Rattle.blocks.specs.Choice.{takeBlock, blocksFor, framesFor}
-use Rattle.blocks.specs.Owners.{give, freed, holds}
+use Rattle.blocks.specs.Owners.{give, inSpan, freed, holds}
 use Rattle.blocks.proofs.WordLaws.{owners-small, lawful-is, lawful-yes, table-lawful}
 use Rattle.blocks.proofs.WordLaws
 use Rattle.blocks.proofs.ChoiceLaws.{Good, takes-good, takes-all, Taking, taking, one, end, takeBlocks-same}
-use Rattle.blocks.proofs.FreeLaws.{given-at, given-other, allocated-owners, freed-again, nobody-holds}
+use Rattle.blocks.proofs.FreeLaws.{cleared-in, cleared-out, given-at, given-other, allocated-owners, freed-again, nobody-holds}
 
 -- frames that a request of n pages takes
 
@@ -58,6 +58,14 @@ pub blocks-same : (F : ℕ) (p q : ℕ → Bool) (n : ℕ) → ((g : ℕ) → g 
 unfolding blocksFor
 blocks-same F p q n same = takeBlocks-same n F p q n same
 
+-- pool sizes
+
+pub size-test : (F : ℕ) → isPoolSize F ≡ true → (1 ≤ F) × (F ≤ 4096)
+size-test = WordLaws.size-at
+
+pub test-size : (F : ℕ) → 1 ≤ F → F ≤ 4096 → isPoolSize F ≡ true
+test-size = WordLaws.at-size
+
 -- owners, as a word names them
 
 pub owner-test : (w : ℕ) → isOwner w ≡ true → (1 ≤ w) × (w ≤ 4096)
@@ -66,17 +74,31 @@ owner-test = WordLaws.is-owner
 pub test-owner : (w : ℕ) → 1 ≤ w → w ≤ 4096 → isOwner w ≡ true
 test-owner = WordLaws.owner-is
 
+-- a word up to 4,096 names itself, a larger one nobody
+pub owner-low : (w : ℕ) → w ≤ 4096 → ownerOf w ≡ w
+owner-low = WordLaws.owner-low
+
+pub owner-high : (w : ℕ) → 4096 < w → ownerOf w ≡ 0
+owner-high = WordLaws.owner-high
+
 -- the owner of a held frame is its word
 pub owner-word : (b : List ℕ) (f : ℕ) → (ownersOf b f ≡ 0 → ⊥) → (getD b f 0 ≡ ownersOf b f) × (1 ≤ ownersOf b f) × (ownersOf b f ≤ 4096)
 unfolding ownersOf
 owner-word b f n =
     by-dec (decLe (getD b f 0) 4096)
-    (λ le. let e = WordLaws.owner-low (getD b f 0) le in (sym e, omega arith, omega arith))
-    (λ gt. absurd (n (WordLaws.owner-high (getD b f 0) (omega arith))))
+    (λ le. let e = owner-low (getD b f 0) le in (sym e, omega arith, omega arith))
+    (λ gt. absurd (n (owner-high (getD b f 0) (omega arith))))
 
 pub word-owner : (b : List ℕ) (f w : ℕ) → getD b f 0 ≡ w → w ≤ 4096 → ownersOf b f ≡ w
 unfolding ownersOf
-word-owner b f w e le = ap ownerOf e ∙ WordLaws.owner-low w le
+word-owner b f w e le = ap ownerOf e ∙ owner-low w le
+
+-- a frame is free where it has no owner
+pub free-says : (owner : ℕ → ℕ) (f : ℕ) → freeOf owner f ≡ true → owner f ≡ 0
+free-says = WordLaws.free-at
+
+pub says-free : (owner : ℕ → ℕ) (f : ℕ) → owner f ≡ 0 → freeOf owner f ≡ true
+says-free = WordLaws.at-free
 
 -- lawful buffers
 
@@ -116,6 +138,15 @@ owner-given F free owner o n t enough h = given-at F free owner o (framesFor F f
 
 pub owner-kept : (owner : ℕ → ℕ) (o : ℕ) (fs : List ℕ) (g : ℕ) → ((t : ℕ) → t < length fs → getD fs t 0 ≡ g → ⊥) → give owner o fs g ≡ owner g
 owner-kept = given-other
+
+-- owners of the span hold nothing any more, others what they held
+pub freed-in : (owner : ℕ → ℕ) (o n f : ℕ) → inSpan o n (owner f) ≡ true → freed owner o n f ≡ 0
+unfolding freed
+freed-in owner o n f t = sym (cleared-in o n (owner f) t)
+
+pub freed-out : (owner : ℕ → ℕ) (o n f : ℕ) → inSpan o n (owner f) ≡ false → freed owner o n f ≡ owner f
+unfolding freed
+freed-out owner o n f t = sym (cleared-out o n (owner f) t)
 
 -- the words that an allocation leaves name just the owners that it gives
 pub owners-allocated : (F : ℕ) (b : List ℕ) (o n : ℕ) → lawful F b ≡ true → n ≤ count F (freeIn b) → o + n ≤ 4097

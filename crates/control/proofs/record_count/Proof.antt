@@ -1,0 +1,26 @@
+use borrow.Author.Needs.{needs}
+use Rattle.control.proofs.record_count.Statement.{statement}
+use Rattle.control.proofs.record_count.Tie as tie
+use mathlib.Core.Path.{refl}
+use Prim.Native.Nat.{_-_}
+use Rattle.control.specs.Control.{recordCount}
+
+place-of-requires : tie.Need-place-of-requires
+place-of-requires c κs = search needs
+
+add-result : tie.Need-add-result
+add-result c = search needs
+
+mul-result : tie.Need-mul-result
+mul-result c = search needs
+
+shared-slice-read-result : tie.Need-shared-slice-read-result
+shared-slice-read-result c = search needs
+
+returns : tie.Need-returns
+unfolding recordCount
+returns c = rw (← (c .before .place-of .ensures .0)) refl
+
+pub record-count-spec : {M : Type 1} → statement M
+record-count-spec =
+    tie.close (tie.spec place-of-requires add-result mul-result shared-slice-read-result returns)

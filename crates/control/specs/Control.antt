@@ -1,0 +1,81 @@
+-- The control buffer. Document 01, What the host lends: "Control, 195 words: pool size F (1 to 4,096); count C of removal records; open mask (space s is 2 to the power s; at most 15);
+-- 64 removal records of three words: space (0 to 3), first page, page count (at least 1, ending by page 1,023). Record m (from 1 to C) stands in place m mod 64. Unused places are zero."
+-- Only the accessors, the three writers and freshControl know where a word stands; everything else goes by their laws.
+use mathlib.Core.Bool.{Bool, true, false, _&&_, _||_}
+use mathlib.Core.List.{List, _∷_}
+use Prim.Native.Nat.{ℕ, _+_, _-_, _*_, _/_, _%_, _^_}
+use lib.Dec.{leb, eqb}
+use lib.ListN.{getD, set, replicate}
+use Rattle.words.specs.Searches.{allFrom}
+use Rattle.blocks.specs.FrameWords.{isPoolSize}
+
+-- F
+unfoldable pub poolSize : List ℕ → ℕ
+poolSize c = getD c 0 0
+
+-- C
+unfoldable pub removals : List ℕ → ℕ
+removals c = getD c 1 0
+
+unfoldable pub openMask : List ℕ → ℕ
+openMask c = getD c 2 0
+
+-- the first word of place j
+unfoldable pub placeOf : ℕ → ℕ
+placeOf j = 3 + 3 * j
+
+unfoldable pub recordSpace : List ℕ → ℕ → ℕ
+recordSpace c j = getD c (placeOf j) 0
+
+unfoldable pub recordFirst : List ℕ → ℕ → ℕ
+recordFirst c j = getD c (placeOf j + 1) 0
+
+unfoldable pub recordCount : List ℕ → ℕ → ℕ
+recordCount c j = getD c (placeOf j + 2) 0
+
+-- the writers
+unfoldable pub withRemovals : List ℕ → ℕ → List ℕ
+withRemovals c n = set c 1 n
+
+unfoldable pub withMask : List ℕ → ℕ → List ℕ
+withMask c m = set c 2 m
+
+unfoldable pub withRecord : List ℕ → ℕ → ℕ → ℕ → ℕ → List ℕ
+withRecord c j space first count = set (set (set c (placeOf j) space) (placeOf j + 1) first) (placeOf j + 2) count
+
+-- "Record m (from 1 to C) stands in place m mod 64": some record stands in place j, for j below 64
+unfoldable pub used : ℕ → ℕ → Bool
+used C j = leb 64 C || (leb 1 j && leb j C)
+
+-- "space (0 to 3), first page, page count (at least 1, ending by page 1,023)"; "unused places are zero"
+unfoldable pub recordOk : Bool → ℕ → ℕ → ℕ → Bool
+recordOk u space first count =
+    elim u [
+      | true ↦ leb space 3 && (leb 1 count && leb (first + count) 1024)
+      | false ↦ eqb space 0 && (eqb first 0 && eqb count 0)
+    ]
+
+unfoldable pub recordFits : List ℕ → ℕ → Bool
+recordFits c j = recordOk (used (removals c) j) (recordSpace c j) (recordFirst c j) (recordCount c j)
+
+-- the control buffer's part of what document 01 calls sound
+unfoldable pub lawfulControl : List ℕ → Bool
+lawfulControl c = isPoolSize (poolSize c) && (leb (openMask c) 15 && allFrom 64 0 (recordFits c))
+
+-- "space s is 2 to the power s"
+unfoldable pub isOpen : ℕ → ℕ → Bool
+isOpen mask s = eqb (mask / 2 ^ s % 2) 1
+
+unfoldable pub opened : List ℕ → ℕ → List ℕ
+opened c s = withMask c (openMask c + 2 ^ s)
+
+unfoldable pub closedMask : List ℕ → ℕ → List ℕ
+closedMask c s = withMask c (openMask c - 2 ^ s)
+
+-- one removal record more
+unfoldable pub appended : List ℕ → ℕ → ℕ → ℕ → List ℕ
+appended c space first count = withRecord (withRemovals c (removals c + 1)) ((removals c + 1) % 64) space first count
+
+-- after set up pool: "no space open, C = 0, .. records zero"
+unfoldable pub freshControl : ℕ → List ℕ
+freshControl F = F ∷ replicate 194 0

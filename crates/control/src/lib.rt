@@ -1,0 +1,228 @@
+// The control buffer: its fields, whether it is lawful, and what the calls write into it.
+ghost use mathlib.Core.Path.{_≡_};
+ghost use mathlib.Core.Bool.{true, false};
+ghost use Prim.Native.Nat.{_+_, _^_, _≤_, _<_};
+ghost use lib.ListN.{length};
+ghost use Rattle.control.specs.Control.{poolSize, removals, openMask, placeOf, recordSpace, recordFirst, recordCount, used, recordOk, recordFits, lawfulControl, isOpen, opened, closedMask, appended, freshControl};
+
+const POOL: usize = 0;
+
+const REMOVALS: usize = 1;
+
+const MASK: usize = 2;
+
+const RECORDS: u32 = 3;
+
+const LENGTH: usize = 195;
+
+pub fn pool_size(control: &[u32]) -> u32
+    requires { ⌜ length (now control) ≡ 195 ⌝ }
+    ensures { λ r. ⌜ r ≡ poolSize (now (control .entry)) ⌝ }
+{
+    control[POOL]
+}
+
+pub fn removal_count(control: &[u32]) -> u32
+    requires { ⌜ length (now control) ≡ 195 ⌝ }
+    ensures { λ r. ⌜ r ≡ removals (now (control .entry)) ⌝ }
+{
+    control[REMOVALS]
+}
+
+pub fn open_mask(control: &[u32]) -> u32
+    requires { ⌜ length (now control) ≡ 195 ⌝ }
+    ensures { λ r. ⌜ r ≡ openMask (now (control .entry)) ⌝ }
+{
+    control[MASK]
+}
+
+// The first word of place j.
+fn place_of(j: u32) -> usize
+    requires { ⌜ j < 64 ⌝ }
+    ensures { λ r. ⌜ r ≡ placeOf j ⌝ }
+    ensures { λ r. ⌜ r + 2 < 195 ⌝ }
+{
+    (RECORDS + 3 * j) as usize
+}
+
+// The space of the record in place j.
+pub fn record_space(control: &[u32], j: u32) -> u32
+    requires { ⌜ length (now control) ≡ 195 ⌝ }
+    requires { ⌜ j < 64 ⌝ }
+    ensures { λ r. ⌜ r ≡ recordSpace (now (control .entry)) j ⌝ }
+{
+    let at = place_of(j);
+    control[at]
+}
+
+// Its first page.
+pub fn record_first(control: &[u32], j: u32) -> u32
+    requires { ⌜ length (now control) ≡ 195 ⌝ }
+    requires { ⌜ j < 64 ⌝ }
+    ensures { λ r. ⌜ r ≡ recordFirst (now (control .entry)) j ⌝ }
+{
+    let at = place_of(j);
+    control[at + 1]
+}
+
+// Its page count.
+pub fn record_count(control: &[u32], j: u32) -> u32
+    requires { ⌜ length (now control) ≡ 195 ⌝ }
+    requires { ⌜ j < 64 ⌝ }
+    ensures { λ r. ⌜ r ≡ recordCount (now (control .entry)) j ⌝ }
+{
+    let at = place_of(j);
+    control[at + 2]
+}
+
+// The mask of space s alone.
+fn bit_of(s: u32) -> u32
+    requires { ⌜ s ≤ 3 ⌝ }
+    ensures { λ r. ⌜ r ≡ 2 ^ s ⌝ }
+    ensures { λ r. ⌜ 1 ≤ r ⌝ }
+    ensures { λ r. ⌜ r ≤ 8 ⌝ }
+{
+    1u32 << s
+}
+
+// Whether space s is open in a mask.
+pub fn is_open(mask: u32, s: u32) -> bool
+    requires { ⌜ s ≤ 3 ⌝ }
+    ensures { λ r. ⌜ r ≡ isOpen mask s ⌝ }
+{
+    let bit = bit_of(s);
+    mask / bit % 2 == 1
+}
+
+// Whether one of the records 1 to c stands in place j.
+fn is_used(c: u32, j: u32) -> bool
+    ensures { λ r. ⌜ r ≡ used c j ⌝ }
+{
+    if 64 <= c {
+        return true;
+    }
+    if j < 1 {
+        return false;
+    }
+    j <= c
+}
+
+// Whether a place may hold these three words. The sum of first page and page count may not fit a word, so it is not made.
+fn record_ok(used: bool, space: u32, first: u32, count: u32) -> bool
+    ensures { λ r. ⌜ r ≡ recordOk used space first count ⌝ }
+{
+    if !used {
+        if space != 0 {
+            return false;
+        }
+        if first != 0 {
+            return false;
+        }
+        return count == 0;
+    }
+    if 3 < space {
+        return false;
+    }
+    if count < 1 {
+        return false;
+    }
+    if 1024 < count {
+        return false;
+    }
+    first <= 1024 - count
+}
+
+fn record_fits(control: &[u32], j: u32) -> bool
+    requires { ⌜ length (now control) ≡ 195 ⌝ }
+    requires { ⌜ j < 64 ⌝ }
+    ensures { λ r. ⌜ r ≡ recordFits (now (control .entry)) j ⌝ }
+{
+    let stands = is_used(removal_count(control), j);
+    let space = record_space(control, j);
+    let first = record_first(control, j);
+    record_ok(stands, space, first, record_count(control, j))
+}
+
+// Whether the control buffer keeps its layout.
+pub fn control_lawful(control: &[u32]) -> bool
+    requires { ⌜ length (now control) ≡ 195 ⌝ }
+    ensures { λ r. ⌜ r ≡ lawfulControl (now (control .entry)) ⌝ }
+{
+    let pool = pool_size(control);
+    if pool < 1 {
+        return false;
+    }
+    if 4096 < pool {
+        return false;
+    }
+    if 15 < open_mask(control) {
+        return false;
+    }
+    let mut j = 0;
+    while j < 64 {
+        if !record_fits(control, j) {
+            return false;
+        }
+        j += 1;
+    }
+    true
+}
+
+// The number after m. A parameter is known to fit its type, where a word read from a buffer is not.
+fn next_number(m: u32) -> u32
+    requires { ⌜ (m ≡ 4294967295 → ⊥) ⌝ }
+    ensures { λ r. ⌜ r ≡ m + 1 ⌝ }
+{
+    m + 1
+}
+
+// Appends a removal record.
+pub fn append(control: &mut [u32], space: u32, first: u32, count: u32)
+    requires { ⌜ length (now control) ≡ 195 ⌝ }
+    requires { ⌜ (removals (now control) ≡ 4294967295 → ⊥) ⌝ }
+    ensures { λ _. ⌜ now (control .exit) ≡ appended (now (control .entry)) space first count ⌝ }
+{
+    let m = next_number(removal_count(control));
+    let at = place_of(m % 64);
+    control[REMOVALS] = m;
+    control[at] = space;
+    control[at + 1] = first;
+    control[at + 2] = count;
+}
+
+// Opens space s in the mask.
+pub fn open_space(control: &mut [u32], s: u32)
+    requires { ⌜ length (now control) ≡ 195 ⌝ }
+    requires { ⌜ s ≤ 3 ⌝ }
+    requires { ⌜ openMask (now control) ≤ 15 ⌝ }
+    requires { ⌜ isOpen (openMask (now control)) s ≡ false ⌝ }
+    ensures { λ _. ⌜ now (control .exit) ≡ opened (now (control .entry)) s ⌝ }
+{
+    let mask = open_mask(control);
+    control[MASK] = mask + bit_of(s);
+}
+
+// Closes space s in the mask.
+pub fn close_space(control: &mut [u32], s: u32)
+    requires { ⌜ length (now control) ≡ 195 ⌝ }
+    requires { ⌜ s ≤ 3 ⌝ }
+    requires { ⌜ openMask (now control) ≤ 15 ⌝ }
+    requires { ⌜ isOpen (openMask (now control)) s ≡ true ⌝ }
+    ensures { λ _. ⌜ now (control .exit) ≡ closedMask (now (control .entry)) s ⌝ }
+{
+    let mask = open_mask(control);
+    control[MASK] = mask - bit_of(s);
+}
+
+// The control buffer of a pool just set up.
+pub fn fresh_control(control: &mut [u32], pool: u32)
+    requires { ⌜ length (now control) ≡ 195 ⌝ }
+    ensures { λ _. ⌜ now (control .exit) ≡ freshControl pool ⌝ }
+{
+    let mut i = 0;
+    while i < LENGTH {
+        control[i] = 0;
+        i += 1;
+    }
+    control[POOL] = pool;
+}
