@@ -1,0 +1,4 @@
+pub mod SpaceLaws
+pub mod SoundLaws
+pub mod PlainLaws
+pub mod ChangeLaws
