@@ -12,6 +12,9 @@ pub record Tables : Type 0 where
   pub pages : List ℕ
   pub ranges : List ℕ
 
+abbrev pub tables : List ℕ → List ℕ → List ℕ → List ℕ → Tables
+tables c fs ps rs = record { control = c; frames = fs; pages = ps; ranges = rs }
+
 -- "Control, 195 words", "Frames, 4,096 words", "Pages, 4,096 words", "Ranges, 2,048 words"
 unfoldable pub rightLengths : Tables → Bool
 rightLengths T = eqb (length (T .control)) 195 && (eqb (length (T .frames)) 4096 && (eqb (length (T .pages)) 4096 && eqb (length (T .ranges)) 2048))
