@@ -2,3 +2,4 @@ pub mod SpaceLaws
 pub mod SoundLaws
 pub mod PlainLaws
 pub mod ChangeLaws
+pub mod CallLaws
