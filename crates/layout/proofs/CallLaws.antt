@@ -7,7 +7,7 @@ use native.Mathlib.Decide.{decLt}
 use native.Mathlib.Omega.{arith}
 use lib.Dec.{eqb, leb, ltb}
 use lib.ListN.{length, getD}
-use borrow.Author.Tests.{leb-true, ltb-false, ltb-true, eqb-false, not-true, not-false}
+use borrow.Author.Tests.{leb-true, ltb-false, eqb-true, eqb-false, not-false}
 use Rattle.words.specs.Counts.{count}
 use Rattle.words.specs.Searches.{allFrom, anyFrom}
 use Rattle.words.specs.Refusals.{Refusal, decide, numbers, Applies, NoneApplies, done, next}
@@ -20,13 +20,13 @@ use Rattle.runs.specs.PageWords.{mapped, allowedRights}
 use Rattle.control.specs.Control.{poolSize, removals, openMask, isOpen}
 use Rattle.layout.specs.declared.Answer.{Answer}
 use Rattle.layout.specs.declared.Answer.the-variants.{Done}
-use Rattle.layout.specs.Answers.{outcome}
+use Rattle.layout.specs.Answers.{outcome, leaves}
 use Rattle.layout.specs.Tables.{Tables, rightLengths, spacePages}
 use Rattle.layout.specs.Sound.{sound}
 use Rattle.layout.specs.Plain.{Plain, plainOf, tablesOf, Valid}
 use Rattle.layout.specs.Changes.{setUpPlain, openPlain, mapPlain, unmapPlain, protectPlain, closePlain}
 use Rattle.layout.specs.Calls.{isSpan, spaceOpen, mappedAt, judged, setUpRefusals, setUpAnswer, openRefusals, openAnswer, closeRefusals, closeAnswer, mapRefusals, mapAnswer, unmapRefusals, unmapAnswer, protectRefusals, protectAnswer, coverageRefusals, coverageAnswer}
-use Rattle.layout.proofs.PlainLaws.{sound-valid}
+use Rattle.layout.proofs.PlainLaws.{sound-valid, valid-sound, valid-lengths}
 use Rattle.layout.proofs.ChangeLaws.{test-span, setUp-valid, open-valid, protect-valid, unmap-valid, close-valid, map-valid}
 
 
@@ -88,3 +88,131 @@ module _ (T : Tables) where
   pub coverage-exactly : (s : ℕ) → (numbers (λ x. outcome x .number) (coverageRefusals T s) ≡ 1 ∷ 2 ∷ 5 ∷ 10 ∷ 12 ∷ []) × Exactly (coverageRefusals T s) (coverageAnswer T s)
   unfolding numbers coverageRefusals coverageAnswer positive
   coverage-exactly s = (refl, exactly _ _ _ refl)
+
+-- what an accepted call was asked
+
+pub record Judged (T : Tables) : Type 0 where
+  pub lengths : rightLengths T ≡ true
+  pub tables : sound T ≡ true
+
+judging : (T : Tables) → not (rightLengths T) ≡ false → not (sound T) ≡ false → Judged T
+judging T a b = record { lengths = not-false _ a; tables = not-false _ b }
+
+space-small : (s : ℕ) → ltb 3 s ≡ false → s ≤ 3
+space-small s f = ltb-false 3 s f
+
+rights-small : (r : ℕ) → not (allowedRights r) ≡ false → r ≤ 7
+unfolding allowedRights
+rights-small r f = leb-true _ _ (not-false _ f)
+
+span-facts : (first n : ℕ) → not (isSpan first n) ≡ false → (1 ≤ n) × (first + n ≤ 1024)
+unfolding isSpan
+span-facts first n f = let q = and-true (leb 1 n) (leb (first + n) 1024) (not-false _ f) in (leb-true _ _ (q .0), leb-true _ _ (q .1))
+
+pub record Opening (T : Tables) (s : ℕ) : Type 0 where
+  pub judged : Judged T
+  pub space : s ≤ 3
+  pub shut : spaceOpen T s ≡ false
+
+pub open-facts : (T : Tables) (s : ℕ) → NoneApplies (openRefusals T s) → Opening T s
+unfolding openRefusals
+open-facts T s (next a (next b (next c (next d done)))) = record { judged = judging T a b; space = space-small s c; shut = d }
+
+pub record Closing (T : Tables) (s : ℕ) : Type 0 where
+  pub judged : Judged T
+  pub space : s ≤ 3
+  pub is-open : spaceOpen T s ≡ true
+  pub number-left : removals (T .control) ≡ 4294967295 → ⊥
+
+pub close-facts : (T : Tables) (s : ℕ) → NoneApplies (closeRefusals T s) → Closing T s
+unfolding closeRefusals
+close-facts T s (next a (next b (next c (next d (next e done))))) =
+    record { judged = judging T a b; space = space-small s c; is-open = not-false _ d; number-left = eqb-false _ _ e }
+
+-- a call on a span of an open space
+pub record Spanning (T : Tables) (s first n : ℕ) : Type 0 where
+  pub judged : Judged T
+  pub space : s ≤ 3
+  pub some : 1 ≤ n
+  pub room : first + n ≤ 1024
+  pub is-open : spaceOpen T s ≡ true
+
+pub record Mapping (T : Tables) (s first n rights : ℕ) : Type 0 where
+  pub spans : Spanning T s first n
+  pub allowed : rights ≤ 7
+  pub empty : (p : ℕ) → inSpan first n p ≡ true → mappedAt T s p ≡ false
+  pub enough : n ≤ count (poolSize (T .control)) (freeIn (T .frames))
+
+pub map-facts : (T : Tables) (s first n rights : ℕ) → NoneApplies (mapRefusals T s first n rights) → Mapping T s first n rights
+unfolding mapRefusals
+map-facts T s first n rights (next a (next b (next c (next d (next e (next f (next g (next h done)))))))) =
+    let q = span-facts first n e in
+    record {
+      spans = record { judged = judging T a b; space = space-small s c; some = q .0; room = q .1; is-open = not-false _ f };
+      allowed = rights-small rights d;
+      empty = λ p y. let w = test-span first n p y in any-not n first (mappedAt T s) g p (w .0) (w .1);
+      enough = ltb-false _ _ h;
+    }
+
+pub record Unmapping (T : Tables) (s first n : ℕ) : Type 0 where
+  pub spans : Spanning T s first n
+  pub all : (p : ℕ) → inSpan first n p ≡ true → mappedAt T s p ≡ true
+  pub number-left : removals (T .control) ≡ 4294967295 → ⊥
+
+pub unmap-facts : (T : Tables) (s first n : ℕ) → NoneApplies (unmapRefusals T s first n) → Unmapping T s first n
+unfolding unmapRefusals
+unmap-facts T s first n (next a (next b (next c (next e (next f (next g (next h done))))))) =
+    let q = span-facts first n e in
+    record {
+      spans = record { judged = judging T a b; space = space-small s c; some = q .0; room = q .1; is-open = not-false _ f };
+      all = λ p y. let w = test-span first n p y in allFrom-at n first (mappedAt T s) (not-false _ g) p (w .0) (w .1);
+      number-left = eqb-false _ _ h;
+    }
+
+pub record Protecting (T : Tables) (s first n rights : ℕ) : Type 0 where
+  pub unmaps : Unmapping T s first n
+  pub allowed : rights ≤ 7
+
+pub protect-facts : (T : Tables) (s first n rights : ℕ) → NoneApplies (protectRefusals T s first n rights) → Protecting T s first n rights
+unfolding protectRefusals unmapRefusals
+protect-facts T s first n rights (next a (next b (next c (next d (next e (next f (next g (next h done)))))))) =
+    record { unmaps = unmap-facts T s first n (next a (next b (next c (next e (next f (next g (next h done))))))); allowed = rights-small rights d }
+
+-- the plain state after an accepted call is valid, so its tables are sound
+
+module _ (T : Tables) where
+  valid : Judged T → Valid (plainOf T)
+  valid j = sound-valid T (j .lengths) (j .tables)
+
+  pub opened-valid : (s : ℕ) → Opening T s → Valid (openPlain (plainOf T) s)
+  unfolding plainOf spaceOpen
+  opened-valid s w = open-valid (plainOf T) (valid (w .judged)) s (w .space) (w .shut)
+
+  pub closed-valid : (s : ℕ) → Closing T s → Valid (closePlain (plainOf T) s)
+  unfolding plainOf spaceOpen
+  closed-valid s w = close-valid (plainOf T) (valid (w .judged)) s (w .space) (w .is-open)
+
+  pub mapped-valid : (s first n rights : ℕ) → Mapping T s first n rights → Valid (mapPlain (plainOf T) s first n rights)
+  unfolding plainOf spaceOpen mappedAt freeIn
+  mapped-valid s first n rights w =
+      let q = w .spans in
+      map-valid (plainOf T) (valid (q .judged)) s first n rights (q .space) (q .room) (w .allowed) (w .enough) (q .is-open) (w .empty)
+
+  pub unmapped-valid : (s first n : ℕ) → Unmapping T s first n → Valid (unmapPlain (plainOf T) s first n)
+  unmapped-valid s first n w = let q = w .spans in unmap-valid (plainOf T) (valid (q .judged)) s first n (q .space) (q .room) (q .some)
+
+  pub protected-valid : (s first n rights : ℕ) → Protecting T s first n rights → Valid (protectPlain (plainOf T) s first n rights)
+  unfolding plainOf mappedAt
+  protected-valid s first n rights w =
+      let u = w .unmaps in
+      let q = u .spans in
+      protect-valid (plainOf T) (valid (q .judged)) s first n rights (q .space) (q .some) (q .room) (w .allowed) (u .all)
+
+-- every call leaves tables of the right lengths that are sound, where it was lent such
+pub leaves-sound : (T : Tables) (r : Answer) (new : Plain) → rightLengths T ≡ true → sound T ≡ true → (outcome r .number ≡ 0 → Valid new)
+    → (rightLengths (leaves r (tablesOf new) T) ≡ true) × (sound (leaves r (tablesOf new) T) ≡ true)
+unfolding leaves
+leaves-sound T r new l t v =
+    by-test (eqb (outcome r .number) 0)
+    (λ y. let w = v (eqb-true _ _ y) in rw (y, leaves) (valid-lengths new w, valid-sound new w))
+    (λ y. rw (y, leaves) (l, t))
