@@ -1,34 +1,31 @@
 -- Demand 2 over the definitions: each refusal comes when its condition holds and none before it applies, and at no other time; an accepted call leaves sound tables.
-use mathlib.Core.Path.{_≡_, refl, ap, _∙_, sym}
+use mathlib.Core.Path.{_≡_, refl, ap}
 use mathlib.Core.Bool.{Bool, true, false, _&&_, not}
 use mathlib.Core.List.{List, [], _∷_}
-use Prim.Native.Nat.{ℕ, zero, suc, _+_, _<_, _≤_, zero-le}
-use native.Mathlib.Decide.{decLt}
+use Prim.Native.Nat.{ℕ, zero, suc, _+_, _<_, _≤_}
 use native.Mathlib.Omega.{arith}
 use lib.Dec.{eqb, leb, ltb}
 use lib.ListN.{length, getD}
-use borrow.Author.Tests.{leb-true, ltb-false, eqb-true, eqb-false, not-false}
+use borrow.Author.Tests.{eq-eqb, ne-eqb, leb-true, ltb-false, eqb-true, eqb-false, not-false}
 use Rattle.words.specs.Counts.{count}
-use Rattle.words.specs.Searches.{allFrom, anyFrom}
 use Rattle.words.specs.Refusals.{Refusal, decide, numbers, Applies, NoneApplies, done, next}
-use Rattle.words.proofs.Cases.{by-test, true-false, and-true}
+use Rattle.words.proofs.Cases.{by-test, and-true}
 use Rattle.words.proofs.SearchLaws.{allFrom-at, any-not}
 use Rattle.words.proofs.RefusalLaws.{applies-answers, answers-applies, none-answers, answers-none}
-use Rattle.blocks.specs.FrameWords.{isPoolSize, freeOf, freeIn}
+use Rattle.blocks.specs.FrameWords.{freeIn}
 use Rattle.blocks.specs.Owners.{inSpan}
-use Rattle.runs.specs.PageWords.{mapped, allowedRights}
-use Rattle.control.specs.Control.{poolSize, removals, openMask, isOpen}
+use Rattle.runs.specs.PageWords.{allowedRights}
+use Rattle.control.specs.Control.{poolSize, removals}
 use Rattle.layout.specs.declared.Answer.{Answer}
 use Rattle.layout.specs.declared.Answer.the-variants.{Done}
 use Rattle.layout.specs.Answers.{outcome, leaves}
-use Rattle.layout.specs.Tables.{Tables, rightLengths, spacePages}
+use Rattle.layout.specs.Tables.{Tables, rightLengths}
 use Rattle.layout.specs.Sound.{sound}
 use Rattle.layout.specs.Plain.{Plain, plainOf, tablesOf, Valid}
-use Rattle.layout.specs.Changes.{setUpPlain, openPlain, mapPlain, unmapPlain, protectPlain, closePlain}
+use Rattle.layout.specs.Changes.{openPlain, mapPlain, unmapPlain, protectPlain, closePlain}
 use Rattle.layout.specs.Calls.{isSpan, spaceOpen, mappedAt, judged, setUpRefusals, setUpAnswer, openRefusals, openAnswer, closeRefusals, closeAnswer, mapRefusals, mapAnswer, unmapRefusals, unmapAnswer, protectRefusals, protectAnswer, coverageRefusals, coverageAnswer}
 use Rattle.layout.proofs.PlainLaws.{sound-valid, valid-sound, valid-lengths}
-use Rattle.layout.proofs.ChangeLaws.{test-span, setUp-valid, open-valid, protect-valid, unmap-valid, close-valid, map-valid}
-
+use Rattle.layout.proofs.ChangeLaws.{test-span, open-valid, protect-valid, unmap-valid, close-valid, map-valid}
 
 -- each refusal exactly when its condition holds and none before it applies, acceptance exactly when none holds
 pub record Exactly (rs : List (Refusal Answer)) (r : Answer) : Type 0 where
@@ -207,6 +204,15 @@ module _ (T : Tables) where
       let u = w .unmaps in
       let q = u .spans in
       protect-valid (plainOf T) (valid (q .judged)) s first n rights (q .space) (q .some) (q .room) (w .allowed) (u .all)
+
+-- what a call leaves, by its answer
+pub accepts : {A : Type 0} (r : Answer) (new old : A) → outcome r .number ≡ 0 → new ≡ leaves r new old
+unfolding leaves
+accepts r new old z = rw (eq-eqb _ _ z, leaves)
+
+pub refuses : {A : Type 0} (r : Answer) (new old : A) → (outcome r .number ≡ 0 → ⊥) → old ≡ leaves r new old
+unfolding leaves
+refuses r new old n = rw (ne-eqb _ _ n, leaves)
 
 -- every call leaves tables of the right lengths that are sound, where it was lent such
 pub leaves-sound : (T : Tables) (r : Answer) (new : Plain) → rightLengths T ≡ true → sound T ≡ true → (outcome r .number ≡ 0 → Valid new)

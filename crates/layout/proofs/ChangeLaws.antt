@@ -51,9 +51,17 @@ pub owner-span : (s first n q : ℕ) → inSpan first n q ≡ true → inSpan (o
 unfolding ownerAt
 owner-span s first n q y = let w = test-span first n q y in let lo = w .0 in let hi = w .1 in span-test _ _ _ (omega arith) (omega arith)
 
-owner-pos : (s p : ℕ) → ownerAt s p ≡ 0 → ⊥
+-- the owners of a span are from 1 to 4,096
+pub owner-some : (s p : ℕ) → 1 ≤ ownerAt s p
 unfolding ownerAt
-owner-pos s p e = omega arith
+owner-some s p = omega arith
+
+pub owner-room : (s first n : ℕ) → s ≤ 3 → first + n ≤ 1024 → ownerAt s first + n ≤ 4097
+unfolding ownerAt
+owner-room s first n h room = omega arith
+
+owner-pos : (s p : ℕ) → ownerAt s p ≡ 0 → ⊥
+owner-pos s p e = omega (arith, owner-some s p, e)
 
 -- the words of one space replaced
 
@@ -279,8 +287,12 @@ module _ (P : Plain) (v : Valid P) (s first n rights : ℕ) (h : s ≤ 3) (room 
       let lo = w .0 in
       let hi = w .1 in
       let below = new .below (p - first) (omega arith) in
-      rw (words-here (P .words) s (mapWords (P .words s) first n rights (takenFrames P n)),
-      changed-at (mapWord first n rights (takenFrames P n)) (P .words s) (v .pages-long s h) p hp, y, mapWord)
+      rw (
+        words-here (P .words) s (mapWords (P .words s) first n rights (takenFrames P n)),
+        changed-at (mapWord first n rights (takenFrames P n)) (P .words s) (v .pages-long s h) p hp,
+        y,
+        mapWord,
+      )
       (made-word false rights (getD (takenFrames P n) (p - first) 0) allowed (omega (arith, size)))
 
   -- any other page

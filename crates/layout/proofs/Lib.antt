@@ -3,3 +3,4 @@ pub mod SoundLaws
 pub mod PlainLaws
 pub mod ChangeLaws
 pub mod CallLaws
+pub mod AgainLaws

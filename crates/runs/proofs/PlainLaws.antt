@@ -2,11 +2,11 @@
 use mathlib.Core.Path.{_≡_, refl, ap, ap₂, _∙_, sym}
 use mathlib.Core.Bool.{Bool, true, false}
 use mathlib.Core.List.{List, [], _∷_, _++_}
-use Prim.Native.Nat.{ℕ, suc, _+_, _-_, _≤_}
+use Prim.Native.Nat.{ℕ, suc, _+_, _-_, _<_, _≤_}
 use native.Mathlib.Decide.{decLe}
 use native.Mathlib.Omega.{arith}
 use lib.Dec.{leb}
-use lib.ListN.{length, replicate}
+use lib.ListN.{length, getD, replicate}
 use Rattle.words.specs.Counts.{one-if}
 use Rattle.words.proofs.Cases.{by-test, by-dec, true-false, true-and}
 use Rattle.runs.specs.PageWords.{mapped}
@@ -94,6 +94,14 @@ withBits-plain ws = bits-plain false 0 0 ws
 rangeWords-plain : (ws : List ℕ) → rangeWords (plain ws) ≡ rangeWords ws
 unfolding rangeWords entries bitWord mapped
 rangeWords-plain ws = ap (λ (l : List ℕ). l ++ replicate (512 - length l) 0) (entries-plain false 0 0 0 ws (λ h. absurd (omega arith)))
+
+-- two lists of words are alike by their entries
+pub plain-ext : (ws xs : List ℕ) → length ws ≡ length xs → ((p : ℕ) → p < length ws → bitWord false (getD ws p 0) ≡ bitWord false (getD xs p 0)) → plain ws ≡ plain xs
+unfolding plain
+plain-ext [] [] len h = refl
+plain-ext [] (x ∷ xs) len h = absurd (omega arith)
+plain-ext (w ∷ ws) [] len h = absurd (omega arith)
+plain-ext (w ∷ ws) (x ∷ xs) len h = ap₂ _∷_ (h 0 (omega arith)) (plain-ext ws xs (omega arith) (λ p lt. h (suc p) (omega arith)))
 
 -- words that differ in range bits only have the same range bits and range words made of them
 pub bits-blind : (ws xs : List ℕ) → plain ws ≡ plain xs → withBits ws ≡ withBits xs
