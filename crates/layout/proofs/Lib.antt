@@ -4,3 +4,4 @@ pub mod PlainLaws
 pub mod ChangeLaws
 pub mod CallLaws
 pub mod AgainLaws
+pub mod StepLaws

@@ -2,7 +2,7 @@
 use mathlib.Core.Path.{_≡_, refl, ap, ap₂, _∙_, sym}
 use mathlib.Core.Bool.{Bool, true, false}
 use mathlib.Core.List.{List, [], _∷_, _++_}
-use Prim.Native.Nat.{ℕ, suc, _+_, _-_, _<_, _≤_}
+use Prim.Native.Nat.{ℕ, zero, suc, _+_, _-_, _<_, _≤_}
 use native.Mathlib.Decide.{decLe}
 use native.Mathlib.Omega.{arith}
 use lib.Dec.{leb}
@@ -11,7 +11,7 @@ use Rattle.words.specs.Counts.{one-if}
 use Rattle.words.proofs.Cases.{by-test, by-dec, true-false, true-and}
 use Rattle.runs.specs.PageWords.{mapped}
 use Rattle.runs.specs.Walk.{joins, goesOn, runAfter, bitWord, bitsFrom, withBits, ended, entryOf, entriesFrom, entries, rangeWords, lawfulRanges}
-use Rattle.runs.proofs.WordLaws.{joins-at, join, not-joins, like-bit, bit-bit, goes-join, goes-new}
+use Rattle.runs.proofs.WordLaws.{zero-unmapped, bit-none, joins-at, join, not-joins, like-bit, bit-bit, goes-join, goes-new}
 use Rattle.runs.proofs.WalkLaws.{goes-some, after-cons, after-stop, ended-on, ended-short, ended-long}
 use Rattle.runs.proofs.CheckLaws.{same-refl}
 
@@ -125,3 +125,23 @@ ranges-again ws = ranges-blind (withBits ws) ws (plain-withBits ws)
 pub renewed-lawful : (ws : List ℕ) → lawfulRanges (withBits ws) (rangeWords ws) ≡ true
 unfolding lawfulRanges
 renewed-lawful ws = rw (bits-again ws, ranges-again ws) (true-and _ _ (same-refl (withBits ws)) (same-refl (rangeWords ws)))
+
+-- words of unmapped pages have no range bit and no range
+
+zeros-bits : (k n v : ℕ) → bitsFrom n v (replicate k 0) ≡ replicate k 0
+unfolding bitsFrom
+zeros-bits zero n v = refl
+zeros-bits (suc k) n v = ap₂ _∷_ (bit-none _ 0 (zero-unmapped 0 refl)) (zeros-bits k (goesOn n v 0) 0)
+
+pub bits-zeros : (k : ℕ) → withBits (replicate k 0) ≡ replicate k 0
+unfolding withBits
+bits-zeros k = zeros-bits k 0 0
+
+zeros-entries : (k b : ℕ) → entriesFrom b 0 0 (replicate k 0) ≡ []
+unfolding entriesFrom joins goesOn mapped one-if
+zeros-entries zero b = ended-short b 0 0 (omega arith)
+zeros-entries (suc k) b = ap₂ _++_ (ended-short b 0 0 (omega arith)) (zeros-entries k (suc b))
+
+pub ranges-zeros : (k : ℕ) → rangeWords (replicate k 0) ≡ replicate 512 0
+unfolding rangeWords entries
+ranges-zeros k = ap (λ (l : List ℕ). l ++ replicate (512 - length l) 0) (zeros-entries k 0)
