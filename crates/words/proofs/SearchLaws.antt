@@ -1,6 +1,6 @@
 -- What the tests and searches say, and what a loop has to show at its end: that its result is the one defined.
 use mathlib.Core.Path.{_≡_, refl, ap, _∙_, sym}
-use mathlib.Core.Bool.{Bool, true, false}
+use mathlib.Core.Bool.{Bool, true, false, _&&_}
 use mathlib.Core.List.{List, [], _∷_}
 use mathlib.Core.Option.{Option, none, some}
 use Prim.Native.Nat.{ℕ, zero, suc, _+_, _-_, _<_, _≤_}
@@ -9,7 +9,7 @@ use native.Mathlib.Decide.{decLt, ℕ-discrete}
 use native.Mathlib.Omega.{arith}
 use lib.ListN.{length, getD}
 use Rattle.words.specs.Searches.{allFrom, anyFrom, every, firstFrom, largest, is-some}
-use Rattle.words.proofs.Cases.{by-test, by-dec, true-false}
+use Rattle.words.proofs.Cases.{by-test, by-dec, true-false, and-true, true-and}
 
 pub allFrom-at : (n i : ℕ) (p : ℕ → Bool) → allFrom n i p ≡ true → (k : ℕ) → i ≤ k → k < i + n → p k ≡ true
 unfolding allFrom
@@ -53,6 +53,21 @@ pub all-end : (p : ℕ → Bool) (g e : ℕ) → e ≤ g → true ≡ allFrom (e
 unfolding allFrom
 all-end p g e h = let s : e - g ≡ 0 = omega arith in rw s
 
+-- n numbers from g on are those from g to e
+pub all-start : (p : ℕ → Bool) (g n e : ℕ) → e ≡ g + n → allFrom n g p ≡ allFrom (e - g) g p
+all-start p g n e h = let s : e - g ≡ n = omega arith in rw s
+
+-- two tests at once
+pub all-and : (n i : ℕ) (p q : ℕ → Bool) → allFrom n i (λ k. p k && q k) ≡ (allFrom n i p && allFrom n i q)
+all-and n i p q =
+    by-test (allFrom n i p && allFrom n i q)
+    (λ t. let a = and-true _ _ t in
+    at-allFrom n i _ (λ k lo hi. true-and _ _ (allFrom-at n i p (a .0) k lo hi) (allFrom-at n i q (a .1) k lo hi)) ∙ sym t)
+    (λ f. by-test (allFrom n i (λ k. p k && q k))
+    (λ t. true-false (allFrom n i p && allFrom n i q)
+    (true-and _ _ (at-allFrom n i p (λ k lo hi. and-true (p k) (q k) (allFrom-at n i _ t k lo hi) .0)) (at-allFrom n i q (λ k lo hi. and-true (p k) (q k) (allFrom-at n i _ t k lo hi) .1))) f)
+    (λ e. e ∙ sym f))
+
 -- one passes
 
 pub any-at : (n i : ℕ) (p : ℕ → Bool) → anyFrom n i p ≡ true → (k : ℕ) × (i ≤ k) × (k < i + n) × (p k ≡ true)
@@ -86,6 +101,29 @@ any-more n i p f =
     by-test (anyFrom n i p)
     (λ t. let r = any-at n i p t in let hi = r .2 in at-any (suc n) i p (r .0) (r .1) (omega arith) (r .3) ∙ sym t)
     (λ t. any-none (suc n) i p (λ k lo hi. by-dec (ℕ-discrete k (i + n)) (λ e. rw e f) (λ ne. any-not n i p t k lo (omega arith))) ∙ sym t)
+
+-- one of a range, turn by turn
+
+module _ (p : ℕ → Bool) (g e : ℕ) (h : g < e) where
+  pub any-step : p g ≡ false → anyFrom (e - g) g p ≡ anyFrom (e - (g + 1)) (g + 1) p
+  unfolding anyFrom
+  any-step t =
+      let s : e - g ≡ suc (e - (g + 1)) = omega arith in
+      let n : suc g ≡ g + 1 = omega arith in
+      rw (s, t, anyFrom, n)
+
+  pub any-stop : p g ≡ true → true ≡ anyFrom (e - g) g p
+  unfolding anyFrom
+  any-stop t =
+      let s : e - g ≡ suc (e - (g + 1)) = omega arith in
+      rw (s, t, anyFrom)
+
+pub any-end : (p : ℕ → Bool) (g e : ℕ) → e ≤ g → false ≡ anyFrom (e - g) g p
+unfolding anyFrom
+any-end p g e h = let s : e - g ≡ 0 = omega arith in rw s
+
+pub any-start : (p : ℕ → Bool) (g n e : ℕ) → e ≡ g + n → anyFrom n g p ≡ anyFrom (e - g) g p
+any-start p g n e h = let s : e - g ≡ n = omega arith in rw s
 
 -- each entry of a list passes
 
