@@ -14,6 +14,7 @@ use Rattle.words.proofs.SearchLaws.{allFrom-at, any-not}
 use Rattle.words.proofs.RefusalLaws.{applies-answers, answers-applies, none-answers, answers-none}
 use Rattle.blocks.specs.FrameWords.{freeIn}
 use Rattle.blocks.specs.Owners.{inSpan}
+use Rattle.blocks.proofs.Published.{size-test}
 use Rattle.runs.specs.PageWords.{allowedRights}
 use Rattle.control.specs.Control.{poolSize, removals}
 use Rattle.layout.specs.declared.Answer.{Answer}
@@ -35,7 +36,7 @@ pub record Exactly (rs : List (Refusal Answer)) (r : Answer) : Type 0 where
   pub none : outcome r .number ≡ 0 → NoneApplies rs
 
 -- the numbers are those listed, none of them 0
-positive : List ℕ → Bool
+unfoldable pub positive : List ℕ → Bool
 positive [] = true
 positive (n ∷ ns) = leb 1 n && positive ns
 
@@ -45,7 +46,7 @@ positive-at [] t k h e = omega arith
 positive-at (n ∷ ns) t zero h e = let p : 1 ≤ n = leb-true _ _ (and-true (leb 1 n) (positive ns) t .0) in omega arith
 positive-at (n ∷ ns) t (suc k) h e = positive-at ns (and-true (leb 1 n) (positive ns) t .1) k (omega arith) e
 
-exactly : (rs : List (Refusal Answer)) (a b : ℕ) → positive (numbers (λ x. outcome x .number) rs) ≡ true → Exactly rs (decide rs (Done a b))
+pub exactly : (rs : List (Refusal Answer)) (a b : ℕ) → positive (numbers (λ x. outcome x .number) rs) ≡ true → Exactly rs (decide rs (Done a b))
 exactly rs a b t =
     record {
       refused = λ n w. applies-answers (λ x. outcome x .number) (Done a b) n rs w;
@@ -105,6 +106,10 @@ rights-small r f = leb-true _ _ (not-false _ f)
 span-facts : (first n : ℕ) → not (isSpan first n) ≡ false → (1 ≤ n) × (first + n ≤ 1024)
 unfolding isSpan
 span-facts first n f = let q = and-true (leb 1 n) (leb (first + n) 1024) (not-false _ f) in (leb-true _ _ (q .0), leb-true _ _ (q .1))
+
+pub setUp-facts : (T : Tables) (F : ℕ) → NoneApplies (setUpRefusals T F) → (rightLengths T ≡ true) × (1 ≤ F) × (F ≤ 4096)
+unfolding setUpRefusals
+setUp-facts T F (next a (next b done)) = let q = size-test F (not-false _ b) in (not-false _ a, q .0, q .1)
 
 pub record Opening (T : Tables) (s : ℕ) : Type 0 where
   pub judged : Judged T

@@ -5,3 +5,4 @@ pub mod ChangeLaws
 pub mod CallLaws
 pub mod AgainLaws
 pub mod StepLaws
+pub mod DoneLaws
