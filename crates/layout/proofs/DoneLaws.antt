@@ -1,31 +1,26 @@
 -- The promise of each call from what its code knows: r is what the judge answered, x its outcome.
 use mathlib.Core.Path.{_≡_, refl, ap, _∙_, sym}
-use mathlib.Core.Bool.{Bool, true, false}
-use mathlib.Core.List.{List, [], _∷_, _++_}
-use Prim.Native.Nat.{ℕ, _+_, _-_, _*_, _<_, _≤_}
-use lib.ListN.{length, getD, take, drop, replicate}
-use Rattle.words.specs.Tables.{part, onPart}
+use mathlib.Core.Bool.{true}
+use mathlib.Core.List.{List}
+use Prim.Native.Nat.{ℕ, _-_, _≤_}
+use lib.ListN.{replicate}
 use Rattle.words.specs.Refusals.{Refusal, decide, numbers, NoneApplies}
 use Rattle.words.proofs.RefusalLaws.{none-answers, same-refusal}
 use Rattle.blocks.specs.declared.Outcome.{Outcome}
 use Rattle.blocks.specs.FrameWords.{ownersOf, freeIn, frameWords}
 use Rattle.blocks.specs.Choice.{framesFor, blockCount}
 use Rattle.blocks.specs.Owners.{give, freed}
-use Rattle.runs.specs.Walk.{withBits, rangeWords}
 use Rattle.control.specs.Control.{poolSize, freshControl, opened, closedMask, appended}
 use Rattle.layout.specs.declared.Answer.{Answer}
 use Rattle.layout.specs.declared.Answer.the-variants.{Done}
 use Rattle.layout.specs.Answers.{outcome}
-use Rattle.layout.specs.Tables.{Tables, tables, spacePages, spaceRanges, ownerAt}
+use Rattle.layout.specs.Tables.{Tables, tables, spacePages, ownerAt}
 use Rattle.layout.specs.Plain.{Plain, plainOf, tablesOf}
-use Rattle.layout.specs.Changes.{setUpPlain, openPlain, takenBlocks, mapWords, mapPlain, unmapWords, unmapPlain, mappedIn, protectWords, protectPlain, differing, closePlain}
+use Rattle.layout.specs.Changes.{Rewritten, setUpPlain, openPlain, takenBlocks, mapWords, mapPlain, unmapWords, unmapPlain, mappedIn, protectWords, protectPlain, differing, closePlain}
 use Rattle.layout.specs.Calls.{Called, setUpRefusals, setUpAnswer, SetUpDone, openRefusals, openAnswer, OpenDone, closeRefusals, closeAnswer, CloseDone, mapRefusals, mapAnswer, MapDone, unmapRefusals, unmapAnswer, UnmapDone, protectRefusals, protectAnswer, ProtectDone}
-use Rattle.layout.proofs.SoundLaws.{Lengths, lengths-at, pages-long, ranges-long}
-use Rattle.layout.proofs.CallLaws.{positive, exactly, Judged, setUp-facts, Opening, open-facts, Closing, close-facts, Mapping, map-facts, Unmapping, unmap-facts, Protecting, protect-facts}
-use Rattle.layout.proofs.StepLaws.{called-not, called-done, setUp-built, open-built, map-built, unmap-built, protect-built, close-built, lent-is}
-use native.Mathlib.Omega.{arith}
-use Rattle.runs.proofs.WalkLaws.{length-withBits}
-use Rattle.layout.proofs.PlainLaws.{rangeWords-long}
+use Rattle.layout.proofs.SoundLaws.{Lengths, lengths-at}
+use Rattle.layout.proofs.CallLaws.{positive, exactly, setUp-facts, Opening, open-facts, Closing, close-facts, Mapping, map-facts, Unmapping, unmap-facts, Protecting, protect-facts}
+use Rattle.layout.proofs.StepLaws.{called-not, called-done, setUp-built, open-built, map-built, unmap-built, protect-built, close-built}
 
 -- in general
 
@@ -78,34 +73,6 @@ module _ (T : Tables) (s : ℕ) (r : Answer) (x : Outcome) (re : r ≡ decide (o
   open-done z c ce =
       called-done T (decide (openRefusals T s) (Done 0 0)) (openPlain (plainOf T) s) r _ re (sym (ap (λ (y : Outcome). y .number) xe) ∙ z) (rw ce (open-built T (open-asked z .judged) s))
 
--- a space's part of a buffer as the borrow leaves it
-lent-pages : (T : Tables) → Lengths T → (s a e : ℕ) (ws ps : List ℕ) → s ≤ 3 → a ≡ 1024 * s → e ≡ a + 1024 → length ws ≡ 1024 → ps ≡ take a (T .pages) ++ (ws ++ drop (e - a) (drop a (T .pages)))
-    → ps ≡ onPart (1024 * s) 1024 (λ y. ws) (T .pages)
-lent-pages T l s a e ws ps h ae ee len pe = pe ∙ lent-is 1024 (T .pages) ws s h (l .pages) len a e ae ee
-
-lent-ranges : (T : Tables) → Lengths T → (s a e : ℕ) (es rs : List ℕ) → s ≤ 3 → a ≡ 512 * s → e ≡ a + 512 → length es ≡ 512 → rs ≡ take a (T .ranges) ++ (es ++ drop (e - a) (drop a (T .ranges)))
-    → rs ≡ onPart (512 * s) 512 (λ y. es) (T .ranges)
-lent-ranges T l s a e es rs h ae ee len re = re ∙ lent-is 512 (T .ranges) es s h (l .ranges) len a e ae ee
-
--- the words lent, as the definitions name them
-pub lent-space : (ps : List ℕ) (s a e : ℕ) → a ≡ 1024 * s → e ≡ a + 1024 → take (e - a) (drop a ps) ≡ spacePages ps s
-unfolding spacePages part
-lent-space ps s a e ae ee = let n : e - a ≡ 1024 = omega arith in rw (n, ae)
-
--- what a step on one space leaves, in the buffers: xs are the new words without their range bits
-pub record Written (T : Tables) (s : ℕ) (xs ps rs : List ℕ) : Type 0 where
-  pub pages : ps ≡ onPart (1024 * s) 1024 (λ y. withBits xs) (T .pages)
-  pub ranges : rs ≡ onPart (512 * s) 512 (λ y. rangeWords xs) (T .ranges)
-
-pub written : (T : Tables) → Lengths T → (s a e b f : ℕ) (xs ws es ps rs : List ℕ) → s ≤ 3 → a ≡ 1024 * s → e ≡ a + 1024 → b ≡ 512 * s → f ≡ b + 512 → length xs ≡ 1024
-    → ws ≡ withBits xs → es ≡ rangeWords xs → ps ≡ take a (T .pages) ++ (ws ++ drop (e - a) (drop a (T .pages))) → rs ≡ take b (T .ranges) ++ (es ++ drop (f - b) (drop b (T .ranges)))
-    → Written T s xs ps rs
-written T l s a e b f xs ws es ps rs h ae ee be fe len we ese pe re =
-    record {
-      pages = lent-pages T l s a e (withBits xs) ps h ae ee (length-withBits xs ∙ len) (rw we at pe);
-      ranges = lent-ranges T l s b f (rangeWords xs) rs h be fe (rangeWords-long xs len) (rw ese at re);
-    }
-
 -- protect
 
 module _ (T : Tables) (s first n rights : ℕ) (r : Answer) (x : Outcome) (re : r ≡ decide (protectRefusals T s first n rights) (Done 0 0)) (xe : x ≡ outcome r) where
@@ -121,7 +88,7 @@ module _ (T : Tables) (s first n rights : ℕ) (r : Answer) (x : Outcome) (re : 
   protect-asked z = protect-facts T s first n rights (protect-none z)
 
   pub protect-done : x .number ≡ 0 → (m : ℕ) (c ps rs : List ℕ) → m ≡ differing (spacePages (T .pages) s) first n rights → c ≡ appended (T .control) s first n
-      → Written T s (protectWords (spacePages (T .pages) s) first n rights) ps rs → ProtectDone T s first n rights (Done m 0) (tables c (T .frames) ps rs)
+      → Rewritten s (protectWords (spacePages (T .pages) s) first n rights) (T .pages) (T .ranges) ps rs → ProtectDone T s first n rights (Done m 0) (tables c (T .frames) ps rs)
   unfolding protectAnswer
   protect-done z m c ps rs me ce w =
       let q = protect-asked z .unmaps .spans in
@@ -144,7 +111,7 @@ module _ (T : Tables) (s first n : ℕ) (r : Answer) (x : Outcome) (re : r ≡ d
 
   pub unmap-done : x .number ≡ 0 → (m : ℕ) (c fs ps rs : List ℕ) → m ≡ mappedIn (spacePages (T .pages) s) first n → c ≡ appended (T .control) s first n
       → fs ≡ frameWords (poolSize (T .control)) (freed (ownersOf (T .frames)) (ownerAt s first) n)
-      → Written T s (unmapWords (spacePages (T .pages) s) first n) ps rs → UnmapDone T s first n (Done m 0) (tables c fs ps rs)
+      → Rewritten s (unmapWords (spacePages (T .pages) s) first n) (T .pages) (T .ranges) ps rs → UnmapDone T s first n (Done m 0) (tables c fs ps rs)
   unfolding unmapAnswer
   unmap-done z m c fs ps rs me ce fe w =
       let q = unmap-asked z .spans in
@@ -167,7 +134,7 @@ module _ (T : Tables) (s : ℕ) (r : Answer) (x : Outcome) (re : r ≡ decide (c
 
   pub close-done : x .number ≡ 0 → (m : ℕ) (c fs ps rs : List ℕ) → m ≡ mappedIn (spacePages (T .pages) s) 0 1024 → c ≡ appended (closedMask (T .control) s) s 0 1024
       → fs ≡ frameWords (poolSize (T .control)) (freed (ownersOf (T .frames)) (ownerAt s 0) 1024)
-      → Written T s (unmapWords (spacePages (T .pages) s) 0 1024) ps rs → CloseDone T s (Done m 0) (tables c fs ps rs)
+      → Rewritten s (unmapWords (spacePages (T .pages) s) 0 1024) (T .pages) (T .ranges) ps rs → CloseDone T s (Done m 0) (tables c fs ps rs)
   unfolding closeAnswer
   close-done z m c fs ps rs me ce fe w =
       let q = close-asked z in
@@ -191,10 +158,10 @@ module _ (T : Tables) (s first n rights : ℕ) (r : Answer) (x : Outcome) (re : 
   pub map-done : x .number ≡ 0 → (m : ℕ) (fs ts ps rs : List ℕ) → m ≡ blockCount (poolSize (T .control)) (freeIn (T .frames)) n
       → ts ≡ framesFor (poolSize (T .control)) (freeIn (T .frames)) n
       → fs ≡ frameWords (poolSize (T .control)) (give (ownersOf (T .frames)) (ownerAt s first) (framesFor (poolSize (T .control)) (freeIn (T .frames)) n))
-      → Written T s (mapWords (spacePages (T .pages) s) first n rights ts) ps rs → MapDone T s first n rights (Done m 0) (tables (T .control) fs ps rs)
+      → Rewritten s (mapWords (spacePages (T .pages) s) first n rights ts) (T .pages) (T .ranges) ps rs → MapDone T s first n rights (Done m 0) (tables (T .control) fs ps rs)
   unfolding mapAnswer takenBlocks plainOf freeIn
   map-done z m fs ts ps rs me te fe w =
       let q = map-asked z .spans in
-      let w2 : Written T s (mapWords (spacePages (T .pages) s) first n rights (framesFor (poolSize (T .control)) (freeIn (T .frames)) n)) ps rs = rw te at w in
+      let w2 : Rewritten s (mapWords (spacePages (T .pages) s) first n rights (framesFor (poolSize (T .control)) (freeIn (T .frames)) n)) (T .pages) (T .ranges) ps rs = rw te at w in
       rw (me, fe, w2 .pages, w2 .ranges)
       (done-call (mapRefusals T s first n rights) T (mapPlain (plainOf T) s first n rights) _ 0 _ (map-none z) (map-built T (q .judged) s (q .space) first n rights))
