@@ -1,6 +1,9 @@
 // Whether a call is refused, and by what: the first refusal that applies, or Done with zeros. Nothing is written here.
 ghost use mathlib.Core.Path.{_≡_};
+ghost use lib.Dec.{eqb};
+ghost use lib.ListN.{length};
 ghost use Rattle.words.specs.Refusals.{decide};
+ghost use Rattle.control.specs.Control.{removals};
 ghost use Rattle.layout.specs.declared.Answer.the-variants.{Done};
 ghost use Rattle.layout.specs.Tables.{tables};
 ghost use Rattle.layout.specs.Calls.{setUpRefusals, openRefusals, closeRefusals, mapRefusals, unmapRefusals, protectRefusals};
@@ -10,6 +13,14 @@ use judging::is_span;
 use judging::right_lengths;
 use judging::tables_sound;
 use layout::Answer;
+
+// Whether the removal numbers are used up.
+fn no_number_left(control: &[u32]) -> bool
+    requires { ⌜ length (now control) ≡ 195 ⌝ }
+    ensures { λ r. ⌜ r ≡ eqb (removals (now (control .entry))) 4294967295 ⌝ }
+{
+    control::removal_count(control) == 4294967295
+}
 
 pub fn judge_set_up(
     control: &[u32],
@@ -83,7 +94,7 @@ pub fn judge_close(
     if !control::is_open(control::open_mask(control), space) {
         return Answer::NotOpen;
     }
-    if control::removal_count(control) == 4294967295 {
+    if no_number_left(control) {
         return Answer::NoNumberLeft;
     }
     Answer::Done {
@@ -167,7 +178,7 @@ pub fn judge_unmap(
     if !all_mapped(&pages[a..e], first, count) {
         return Answer::NotMapped;
     }
-    if control::removal_count(control) == 4294967295 {
+    if no_number_left(control) {
         return Answer::NoNumberLeft;
     }
     Answer::Done {
@@ -211,7 +222,7 @@ pub fn judge_protect(
     if !all_mapped(&pages[a..e], first, count) {
         return Answer::NotMapped;
     }
-    if control::removal_count(control) == 4294967295 {
+    if no_number_left(control) {
         return Answer::NoNumberLeft;
     }
     Answer::Done {

@@ -3,61 +3,61 @@ use Rattle.verdicts.proofs.judge_close.Statement.{statement}
 use Rattle.verdicts.proofs.judge_close.Tie as tie
 use mathlib.Core.Path.{ap, sym, _∙_}
 use mathlib.Core.Bool.{not}
-use borrow.Author.Tests.{not-true, not-false, le-ltb, lt-ltb, eq-eqb, ne-eqb}
+use borrow.Author.Tests.{not-true, not-false, le-ltb, lt-ltb}
 use Rattle.layout.specs.Calls.{closeRefusals}
 use Rattle.words.proofs.RefusalLaws.{refused, passed, decided}
 use Rattle.layout.proofs.SoundLaws.{lengths-at}
-use Rattle.verdicts.proofs.VerdictLaws.{open-by, number-by}
+use Rattle.verdicts.proofs.VerdictLaws.{open-by}
 
--- src/judge.rt:74:9
+-- src/lib.rt:85:9
 right-lengths-requires : tie.Need-right-lengths-requires
 right-lengths-requires c κs = search needs
 
--- src/judge.rt:75:9
+-- src/lib.rt:86:9
 returns : tie.Need-returns
 unfolding closeRefusals
 returns c = sym (refused _ _ _ _ (ap not (sym (c .before .right-lengths .ensures) ∙ not-true _ (c .if1 .taken))))
 
--- src/judge.rt:77:9
+-- src/lib.rt:88:9
 tables-sound-requires : tie.Need-tables-sound-requires
 tables-sound-requires c κs = let l = lengths-at _ (sym (c .before .right-lengths .ensures) ∙ not-false _ (c .if1 .left)) in (l .control, (l .frames, (l .pages, l .ranges)))
 
--- src/judge.rt:78:9
+-- src/lib.rt:89:9
 returns-2 : tie.Need-returns-2
 unfolding closeRefusals
 returns-2 c = sym (passed _ _ _ _ (ap not (sym (c .before .before .before .right-lengths .ensures) ∙ not-false _ (c .before .before .if1 .left))) ∙ refused _ _ _ _ (ap not (sym (c .before .tables-sound .ensures) ∙ not-true _ (c .if2 .taken))))
 
--- src/judge.rt:81:9
+-- src/lib.rt:92:9
 returns-3 : tie.Need-returns-3
 unfolding closeRefusals
 returns-3 c = sym (passed _ _ _ _ (ap not (sym (c .before .before .before .before .right-lengths .ensures) ∙ not-false _ (c .before .before .before .if1 .left))) ∙ passed _ _ _ _ (ap not (sym (c .before .before .tables-sound .ensures) ∙ not-false _ (c .before .if2 .left))) ∙ refused _ _ _ _ (lt-ltb _ _ (c .if3 .taken)))
 
--- src/judge.rt:83:26
+-- src/lib.rt:94:26
 open-mask-requires : tie.Need-open-mask-requires
 open-mask-requires c κs = lengths-at _ (sym (c .before .before .before .before .right-lengths .ensures) ∙ not-false _ (c .before .before .before .if1 .left)) .control
 
--- src/judge.rt:83:9
+-- src/lib.rt:94:9
 is-open-requires : tie.Need-is-open-requires
 is-open-requires c κs = c .before .if3 .left
 
--- src/judge.rt:84:9
+-- src/lib.rt:95:9
 returns-4 : tie.Need-returns-4
 unfolding closeRefusals
 returns-4 c = sym (passed _ _ _ _ (ap not (sym (c .before .before .before .before .before .before .before .right-lengths .ensures) ∙ not-false _ (c .before .before .before .before .before .before .if1 .left))) ∙ passed _ _ _ _ (ap not (sym (c .before .before .before .before .before .tables-sound .ensures) ∙ not-false _ (c .before .before .before .before .if2 .left))) ∙ passed _ _ _ _ (le-ltb _ _ (c .before .before .before .if3 .left)) ∙ refused _ _ _ _ (ap not (open-by _ _ _ _ (c .before .before .open-mask .ensures) (c .before .is-open .ensures) ∙ not-true _ (c .if4 .taken))))
 
--- src/judge.rt:86:8
-removal-count-requires : tie.Need-removal-count-requires
-removal-count-requires c κs = lengths-at _ (sym (c .before .before .before .before .before .before .before .right-lengths .ensures) ∙ not-false _ (c .before .before .before .before .before .before .if1 .left)) .control
+-- src/lib.rt:97:8
+no-number-left-requires : tie.Need-no-number-left-requires
+no-number-left-requires c κs = lengths-at _ (sym (c .before .before .before .before .before .before .before .right-lengths .ensures) ∙ not-false _ (c .before .before .before .before .before .before .if1 .left)) .control
 
--- src/judge.rt:87:9
+-- src/lib.rt:98:9
 returns-5 : tie.Need-returns-5
 unfolding closeRefusals
-returns-5 c = sym (passed _ _ _ _ (ap not (sym (c .before .before .before .before .before .before .before .before .before .right-lengths .ensures) ∙ not-false _ (c .before .before .before .before .before .before .before .before .if1 .left))) ∙ passed _ _ _ _ (ap not (sym (c .before .before .before .before .before .before .before .tables-sound .ensures) ∙ not-false _ (c .before .before .before .before .before .before .if2 .left))) ∙ passed _ _ _ _ (le-ltb _ _ (c .before .before .before .before .before .if3 .left)) ∙ passed _ _ _ _ (ap not (open-by _ _ _ _ (c .before .before .before .before .open-mask .ensures) (c .before .before .before .is-open .ensures) ∙ not-false _ (c .before .before .if4 .left))) ∙ refused _ _ _ _ (number-by _ _ (c .before .removal-count .ensures) ∙ eq-eqb _ _ (c .if5 .taken)))
+returns-5 c = sym (passed _ _ _ _ (ap not (sym (c .before .before .before .before .before .before .before .before .before .right-lengths .ensures) ∙ not-false _ (c .before .before .before .before .before .before .before .before .if1 .left))) ∙ passed _ _ _ _ (ap not (sym (c .before .before .before .before .before .before .before .tables-sound .ensures) ∙ not-false _ (c .before .before .before .before .before .before .if2 .left))) ∙ passed _ _ _ _ (le-ltb _ _ (c .before .before .before .before .before .if3 .left)) ∙ passed _ _ _ _ (ap not (open-by _ _ _ _ (c .before .before .before .before .open-mask .ensures) (c .before .before .before .is-open .ensures) ∙ not-false _ (c .before .before .if4 .left))) ∙ refused _ _ _ _ (sym (c .before .no-number-left .ensures) ∙ c .if5 .taken))
 
--- src/judge.rt:65:1
+-- src/lib.rt:76:1
 returns-6 : tie.Need-returns-6
 unfolding closeRefusals
-returns-6 c = sym (passed _ _ _ _ (ap not (sym (c .before .before .before .before .before .before .before .before .before .right-lengths .ensures) ∙ not-false _ (c .before .before .before .before .before .before .before .before .if1 .left))) ∙ passed _ _ _ _ (ap not (sym (c .before .before .before .before .before .before .before .tables-sound .ensures) ∙ not-false _ (c .before .before .before .before .before .before .if2 .left))) ∙ passed _ _ _ _ (le-ltb _ _ (c .before .before .before .before .before .if3 .left)) ∙ passed _ _ _ _ (ap not (open-by _ _ _ _ (c .before .before .before .before .open-mask .ensures) (c .before .before .before .is-open .ensures) ∙ not-false _ (c .before .before .if4 .left))) ∙ passed _ _ _ _ (number-by _ _ (c .before .removal-count .ensures) ∙ ne-eqb _ _ (c .if5 .left)) ∙ decided _)
+returns-6 c = sym (passed _ _ _ _ (ap not (sym (c .before .before .before .before .before .before .before .before .before .right-lengths .ensures) ∙ not-false _ (c .before .before .before .before .before .before .before .before .if1 .left))) ∙ passed _ _ _ _ (ap not (sym (c .before .before .before .before .before .before .before .tables-sound .ensures) ∙ not-false _ (c .before .before .before .before .before .before .if2 .left))) ∙ passed _ _ _ _ (le-ltb _ _ (c .before .before .before .before .before .if3 .left)) ∙ passed _ _ _ _ (ap not (open-by _ _ _ _ (c .before .before .before .before .open-mask .ensures) (c .before .before .before .is-open .ensures) ∙ not-false _ (c .before .before .if4 .left))) ∙ passed _ _ _ _ (sym (c .before .no-number-left .ensures) ∙ c .if5 .left) ∙ decided _)
 
 pub judge-close-spec : {M : Type 1} → statement M
 judge-close-spec =
@@ -71,6 +71,6 @@ judge-close-spec =
     open-mask-requires
     is-open-requires
     returns-4
-    removal-count-requires
+    no-number-left-requires
     returns-5
     returns-6)

@@ -3,109 +3,109 @@ use Rattle.verdicts.proofs.judge_protect.Statement.{statement}
 use Rattle.verdicts.proofs.judge_protect.Tie as tie
 use mathlib.Core.Path.{ap, sym, _∙_}
 use mathlib.Core.Bool.{not}
-use borrow.Author.Tests.{not-true, not-false, le-ltb, lt-ltb, eq-eqb, ne-eqb}
+use borrow.Author.Tests.{not-true, not-false, le-ltb, lt-ltb}
 use Rattle.layout.specs.Calls.{protectRefusals}
 use Rattle.words.proofs.RefusalLaws.{refused, passed, decided}
 use Rattle.layout.proofs.SoundLaws.{lengths-at}
 use Rattle.judging.proofs.SpanLaws.{span-says}
-use Rattle.verdicts.proofs.VerdictLaws.{rights-pass, rights-fail, open-by, all-by, number-by}
+use Rattle.verdicts.proofs.VerdictLaws.{rights-pass, rights-fail, open-by, all-by}
 
--- src/judge.rt:191:9
+-- src/lib.rt:202:9
 right-lengths-requires : tie.Need-right-lengths-requires
 right-lengths-requires c κs = search needs
 
--- src/judge.rt:192:9
+-- src/lib.rt:203:9
 returns : tie.Need-returns
 unfolding protectRefusals
 returns c = sym (refused _ _ _ _ (ap not (sym (c .before .right-lengths .ensures) ∙ not-true _ (c .if1 .taken))))
 
--- src/judge.rt:194:9
+-- src/lib.rt:205:9
 tables-sound-requires : tie.Need-tables-sound-requires
 tables-sound-requires c κs = let l = lengths-at _ (sym (c .before .right-lengths .ensures) ∙ not-false _ (c .if1 .left)) in (l .control, (l .frames, (l .pages, l .ranges)))
 
--- src/judge.rt:195:9
+-- src/lib.rt:206:9
 returns-2 : tie.Need-returns-2
 unfolding protectRefusals
 returns-2 c = sym (passed _ _ _ _ (ap not (sym (c .before .before .before .right-lengths .ensures) ∙ not-false _ (c .before .before .if1 .left))) ∙ refused _ _ _ _ (ap not (sym (c .before .tables-sound .ensures) ∙ not-true _ (c .if2 .taken))))
 
--- src/judge.rt:198:9
+-- src/lib.rt:209:9
 returns-3 : tie.Need-returns-3
 unfolding protectRefusals
 returns-3 c = sym (passed _ _ _ _ (ap not (sym (c .before .before .before .before .right-lengths .ensures) ∙ not-false _ (c .before .before .before .if1 .left))) ∙ passed _ _ _ _ (ap not (sym (c .before .before .tables-sound .ensures) ∙ not-false _ (c .before .if2 .left))) ∙ refused _ _ _ _ (lt-ltb _ _ (c .if3 .taken)))
 
--- src/judge.rt:201:9
+-- src/lib.rt:212:9
 returns-4 : tie.Need-returns-4
 unfolding protectRefusals
 returns-4 c = sym (passed _ _ _ _ (ap not (sym (c .before .before .before .before .before .right-lengths .ensures) ∙ not-false _ (c .before .before .before .before .if1 .left))) ∙ passed _ _ _ _ (ap not (sym (c .before .before .before .tables-sound .ensures) ∙ not-false _ (c .before .before .if2 .left))) ∙ passed _ _ _ _ (le-ltb _ _ (c .before .if3 .left)) ∙ refused _ _ _ _ (rights-fail _ (c .if4 .taken)))
 
--- src/judge.rt:203:9
+-- src/lib.rt:214:9
 is-span-requires : tie.Need-is-span-requires
 is-span-requires c κs = search needs
 
--- src/judge.rt:204:9
+-- src/lib.rt:215:9
 returns-5 : tie.Need-returns-5
 unfolding protectRefusals
 returns-5 c = sym (passed _ _ _ _ (ap not (sym (c .before .before .before .before .before .before .before .right-lengths .ensures) ∙ not-false _ (c .before .before .before .before .before .before .if1 .left))) ∙ passed _ _ _ _ (ap not (sym (c .before .before .before .before .before .tables-sound .ensures) ∙ not-false _ (c .before .before .before .before .if2 .left))) ∙ passed _ _ _ _ (le-ltb _ _ (c .before .before .before .if3 .left)) ∙ passed _ _ _ _ (rights-pass _ (c .before .before .if4 .left)) ∙ refused _ _ _ _ (ap not (sym (c .before .is-span .ensures) ∙ not-true _ (c .if5 .taken))))
 
--- src/judge.rt:206:26
+-- src/lib.rt:217:26
 open-mask-requires : tie.Need-open-mask-requires
 open-mask-requires c κs = lengths-at _ (sym (c .before .before .before .before .before .before .before .right-lengths .ensures) ∙ not-false _ (c .before .before .before .before .before .before .if1 .left)) .control
 
--- src/judge.rt:206:9
+-- src/lib.rt:217:9
 is-open-requires : tie.Need-is-open-requires
 is-open-requires c κs = c .before .before .before .before .if3 .left
 
--- src/judge.rt:207:9
+-- src/lib.rt:218:9
 returns-6 : tie.Need-returns-6
 unfolding protectRefusals
 returns-6 c = sym (passed _ _ _ _ (ap not (sym (c .before .before .before .before .before .before .before .before .before .before .right-lengths .ensures) ∙ not-false _ (c .before .before .before .before .before .before .before .before .before .if1 .left))) ∙ passed _ _ _ _ (ap not (sym (c .before .before .before .before .before .before .before .before .tables-sound .ensures) ∙ not-false _ (c .before .before .before .before .before .before .before .if2 .left))) ∙ passed _ _ _ _ (le-ltb _ _ (c .before .before .before .before .before .before .if3 .left)) ∙ passed _ _ _ _ (rights-pass _ (c .before .before .before .before .before .if4 .left)) ∙ passed _ _ _ _ (ap not (sym (c .before .before .before .before .is-span .ensures) ∙ not-false _ (c .before .before .before .if5 .left))) ∙ refused _ _ _ _ (ap not (open-by _ _ _ _ (c .before .before .open-mask .ensures) (c .before .is-open .ensures) ∙ not-true _ (c .if6 .taken))))
 
--- src/judge.rt:209:13
+-- src/lib.rt:220:13
 mul-a : tie.Need-mul-a
 mul-a c = search needs
 
--- src/judge.rt:210:13
+-- src/lib.rt:221:13
 add-e : tie.Need-add-e
 add-e c = search needs
 
--- src/judge.rt:211:20
+-- src/lib.rt:222:20
 mul-all-mapped : tie.Need-mul-all-mapped
 mul-all-mapped c = let l = (lengths-at _ (sym (c .before .before .before .before .before .before .before .before .before .before .right-lengths .ensures) ∙ not-false _ (c .before .before .before .before .before .before .before .before .before .if1 .left))) .pages in let h = c .before .before .before .before .before .before .if3 .left in search needs
 
--- src/judge.rt:211:20
+-- src/lib.rt:222:20
 sub-all-mapped : tie.Need-sub-all-mapped
 sub-all-mapped c = let l = (lengths-at _ (sym (c .before .before .before .before .before .before .before .before .before .before .right-lengths .ensures) ∙ not-false _ (c .before .before .before .before .before .before .before .before .before .if1 .left))) .pages in let h = c .before .before .before .before .before .before .if3 .left in search needs
 
--- src/judge.rt:211:20
+-- src/lib.rt:222:20
 part-all-mapped-start : tie.Need-part-all-mapped-start
 part-all-mapped-start c = let l = (lengths-at _ (sym (c .before .before .before .before .before .before .before .before .before .before .right-lengths .ensures) ∙ not-false _ (c .before .before .before .before .before .before .before .before .before .if1 .left))) .pages in let h = c .before .before .before .before .before .before .if3 .left in search needs
 
--- src/judge.rt:211:20
+-- src/lib.rt:222:20
 part-all-mapped-end : tie.Need-part-all-mapped-end
 part-all-mapped-end c = let l = (lengths-at _ (sym (c .before .before .before .before .before .before .before .before .before .before .right-lengths .ensures) ∙ not-false _ (c .before .before .before .before .before .before .before .before .before .if1 .left))) .pages in let h = c .before .before .before .before .before .before .if3 .left in search needs
 
--- src/judge.rt:211:9
+-- src/lib.rt:222:9
 all-mapped-requires : tie.Need-all-mapped-requires
 all-mapped-requires c κs = let l = (lengths-at _ (sym (c .before .before .before .before .before .before .before .before .before .before .before .right-lengths .ensures) ∙ not-false _ (c .before .before .before .before .before .before .before .before .before .before .if1 .left))) .pages in let h = c .before .before .before .before .before .before .before .if3 .left in let r = span-says _ _ (sym (c .before .before .before .before .before .is-span .ensures) ∙ not-false _ (c .before .before .before .before .if5 .left)) .1 in search needs
 
--- src/judge.rt:212:9
+-- src/lib.rt:223:9
 returns-7 : tie.Need-returns-7
 unfolding protectRefusals
 returns-7 c = sym (passed _ _ _ _ (ap not (sym (c .before .before .before .before .before .before .before .before .before .before .before .before .before .right-lengths .ensures) ∙ not-false _ (c .before .before .before .before .before .before .before .before .before .before .before .before .if1 .left))) ∙ passed _ _ _ _ (ap not (sym (c .before .before .before .before .before .before .before .before .before .before .before .tables-sound .ensures) ∙ not-false _ (c .before .before .before .before .before .before .before .before .before .before .if2 .left))) ∙ passed _ _ _ _ (le-ltb _ _ (c .before .before .before .before .before .before .before .before .before .if3 .left)) ∙ passed _ _ _ _ (rights-pass _ (c .before .before .before .before .before .before .before .before .if4 .left)) ∙ passed _ _ _ _ (ap not (sym (c .before .before .before .before .before .before .before .is-span .ensures) ∙ not-false _ (c .before .before .before .before .before .before .if5 .left))) ∙ passed _ _ _ _ (ap not (open-by _ _ _ _ (c .before .before .before .before .before .open-mask .ensures) (c .before .before .before .before .is-open .ensures) ∙ not-false _ (c .before .before .before .if6 .left))) ∙ refused _ _ _ _ (ap not (all-by _ _ _ _ _ (c .before .all-mapped .ensures) ∙ not-true _ (c .if7 .taken))))
 
--- src/judge.rt:214:8
-removal-count-requires : tie.Need-removal-count-requires
-removal-count-requires c κs = lengths-at _ (sym (c .before .before .before .before .before .before .before .before .before .before .before .before .before .right-lengths .ensures) ∙ not-false _ (c .before .before .before .before .before .before .before .before .before .before .before .before .if1 .left)) .control
+-- src/lib.rt:225:8
+no-number-left-requires : tie.Need-no-number-left-requires
+no-number-left-requires c κs = lengths-at _ (sym (c .before .before .before .before .before .before .before .before .before .before .before .before .before .right-lengths .ensures) ∙ not-false _ (c .before .before .before .before .before .before .before .before .before .before .before .before .if1 .left)) .control
 
--- src/judge.rt:215:9
+-- src/lib.rt:226:9
 returns-8 : tie.Need-returns-8
 unfolding protectRefusals
-returns-8 c = sym (passed _ _ _ _ (ap not (sym (c .before .before .before .before .before .before .before .before .before .before .before .before .before .before .before .right-lengths .ensures) ∙ not-false _ (c .before .before .before .before .before .before .before .before .before .before .before .before .before .before .if1 .left))) ∙ passed _ _ _ _ (ap not (sym (c .before .before .before .before .before .before .before .before .before .before .before .before .before .tables-sound .ensures) ∙ not-false _ (c .before .before .before .before .before .before .before .before .before .before .before .before .if2 .left))) ∙ passed _ _ _ _ (le-ltb _ _ (c .before .before .before .before .before .before .before .before .before .before .before .if3 .left)) ∙ passed _ _ _ _ (rights-pass _ (c .before .before .before .before .before .before .before .before .before .before .if4 .left)) ∙ passed _ _ _ _ (ap not (sym (c .before .before .before .before .before .before .before .before .before .is-span .ensures) ∙ not-false _ (c .before .before .before .before .before .before .before .before .if5 .left))) ∙ passed _ _ _ _ (ap not (open-by _ _ _ _ (c .before .before .before .before .before .before .before .open-mask .ensures) (c .before .before .before .before .before .before .is-open .ensures) ∙ not-false _ (c .before .before .before .before .before .if6 .left))) ∙ passed _ _ _ _ (ap not (all-by _ _ _ _ _ (c .before .before .before .all-mapped .ensures) ∙ not-false _ (c .before .before .if7 .left))) ∙ refused _ _ _ _ (number-by _ _ (c .before .removal-count .ensures) ∙ eq-eqb _ _ (c .if8 .taken)))
+returns-8 c = sym (passed _ _ _ _ (ap not (sym (c .before .before .before .before .before .before .before .before .before .before .before .before .before .before .before .right-lengths .ensures) ∙ not-false _ (c .before .before .before .before .before .before .before .before .before .before .before .before .before .before .if1 .left))) ∙ passed _ _ _ _ (ap not (sym (c .before .before .before .before .before .before .before .before .before .before .before .before .before .tables-sound .ensures) ∙ not-false _ (c .before .before .before .before .before .before .before .before .before .before .before .before .if2 .left))) ∙ passed _ _ _ _ (le-ltb _ _ (c .before .before .before .before .before .before .before .before .before .before .before .if3 .left)) ∙ passed _ _ _ _ (rights-pass _ (c .before .before .before .before .before .before .before .before .before .before .if4 .left)) ∙ passed _ _ _ _ (ap not (sym (c .before .before .before .before .before .before .before .before .before .is-span .ensures) ∙ not-false _ (c .before .before .before .before .before .before .before .before .if5 .left))) ∙ passed _ _ _ _ (ap not (open-by _ _ _ _ (c .before .before .before .before .before .before .before .open-mask .ensures) (c .before .before .before .before .before .before .is-open .ensures) ∙ not-false _ (c .before .before .before .before .before .if6 .left))) ∙ passed _ _ _ _ (ap not (all-by _ _ _ _ _ (c .before .before .before .all-mapped .ensures) ∙ not-false _ (c .before .before .if7 .left))) ∙ refused _ _ _ _ (sym (c .before .no-number-left .ensures) ∙ c .if8 .taken))
 
--- src/judge.rt:179:1
+-- src/lib.rt:190:1
 returns-9 : tie.Need-returns-9
 unfolding protectRefusals
-returns-9 c = sym (passed _ _ _ _ (ap not (sym (c .before .before .before .before .before .before .before .before .before .before .before .before .before .before .before .right-lengths .ensures) ∙ not-false _ (c .before .before .before .before .before .before .before .before .before .before .before .before .before .before .if1 .left))) ∙ passed _ _ _ _ (ap not (sym (c .before .before .before .before .before .before .before .before .before .before .before .before .before .tables-sound .ensures) ∙ not-false _ (c .before .before .before .before .before .before .before .before .before .before .before .before .if2 .left))) ∙ passed _ _ _ _ (le-ltb _ _ (c .before .before .before .before .before .before .before .before .before .before .before .if3 .left)) ∙ passed _ _ _ _ (rights-pass _ (c .before .before .before .before .before .before .before .before .before .before .if4 .left)) ∙ passed _ _ _ _ (ap not (sym (c .before .before .before .before .before .before .before .before .before .is-span .ensures) ∙ not-false _ (c .before .before .before .before .before .before .before .before .if5 .left))) ∙ passed _ _ _ _ (ap not (open-by _ _ _ _ (c .before .before .before .before .before .before .before .open-mask .ensures) (c .before .before .before .before .before .before .is-open .ensures) ∙ not-false _ (c .before .before .before .before .before .if6 .left))) ∙ passed _ _ _ _ (ap not (all-by _ _ _ _ _ (c .before .before .before .all-mapped .ensures) ∙ not-false _ (c .before .before .if7 .left))) ∙ passed _ _ _ _ (number-by _ _ (c .before .removal-count .ensures) ∙ ne-eqb _ _ (c .if8 .left)) ∙ decided _)
+returns-9 c = sym (passed _ _ _ _ (ap not (sym (c .before .before .before .before .before .before .before .before .before .before .before .before .before .before .before .right-lengths .ensures) ∙ not-false _ (c .before .before .before .before .before .before .before .before .before .before .before .before .before .before .if1 .left))) ∙ passed _ _ _ _ (ap not (sym (c .before .before .before .before .before .before .before .before .before .before .before .before .before .tables-sound .ensures) ∙ not-false _ (c .before .before .before .before .before .before .before .before .before .before .before .before .if2 .left))) ∙ passed _ _ _ _ (le-ltb _ _ (c .before .before .before .before .before .before .before .before .before .before .before .if3 .left)) ∙ passed _ _ _ _ (rights-pass _ (c .before .before .before .before .before .before .before .before .before .before .if4 .left)) ∙ passed _ _ _ _ (ap not (sym (c .before .before .before .before .before .before .before .before .before .is-span .ensures) ∙ not-false _ (c .before .before .before .before .before .before .before .before .if5 .left))) ∙ passed _ _ _ _ (ap not (open-by _ _ _ _ (c .before .before .before .before .before .before .before .open-mask .ensures) (c .before .before .before .before .before .before .is-open .ensures) ∙ not-false _ (c .before .before .before .before .before .if6 .left))) ∙ passed _ _ _ _ (ap not (all-by _ _ _ _ _ (c .before .before .before .all-mapped .ensures) ∙ not-false _ (c .before .before .if7 .left))) ∙ passed _ _ _ _ (sym (c .before .no-number-left .ensures) ∙ c .if8 .left) ∙ decided _)
 
 pub judge-protect-spec : {M : Type 1} → statement M
 judge-protect-spec =
@@ -130,6 +130,6 @@ judge-protect-spec =
     part-all-mapped-end
     all-mapped-requires
     returns-7
-    removal-count-requires
+    no-number-left-requires
     returns-8
     returns-9)
