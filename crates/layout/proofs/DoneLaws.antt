@@ -43,7 +43,7 @@ done-call rs T new a b T′ w e = called-done T (decide rs (Done a b)) new (Done
 module _ (T : Tables) (F : ℕ) (r : Answer) (x : Outcome) (re : r ≡ decide (setUpRefusals T F) (Done 0 0)) (xe : x ≡ outcome r) where
   pub setUp-refused : (x .number ≡ 0 → ⊥) → SetUpDone T F r T
   unfolding setUpAnswer
-  setUp-refused n = refused-call (setUpRefusals T F) r x re xe T (setUpPlain F) 0 0 n
+  setUp-refused n = refused-call (setUpRefusals T F) r x re xe T _ 0 0 n
 
   none : x .number ≡ 0 → NoneApplies (setUpRefusals T F)
   unfolding numbers positive setUpRefusals
@@ -62,7 +62,7 @@ module _ (T : Tables) (F : ℕ) (r : Answer) (x : Outcome) (re : r ≡ decide (s
 module _ (T : Tables) (s : ℕ) (r : Answer) (x : Outcome) (re : r ≡ decide (openRefusals T s) (Done 0 0)) (xe : x ≡ outcome r) where
   pub open-refused : (x .number ≡ 0 → ⊥) → OpenDone T s r T
   unfolding openAnswer
-  open-refused n = refused-call (openRefusals T s) r x re xe T (openPlain (plainOf T) s) 0 0 n
+  open-refused n = refused-call (openRefusals T s) r x re xe T _ 0 0 n
 
   pub open-asked : x .number ≡ 0 → Opening T s
   unfolding numbers positive openRefusals
@@ -78,7 +78,7 @@ module _ (T : Tables) (s : ℕ) (r : Answer) (x : Outcome) (re : r ≡ decide (o
 module _ (T : Tables) (s first n rights : ℕ) (r : Answer) (x : Outcome) (re : r ≡ decide (protectRefusals T s first n rights) (Done 0 0)) (xe : x ≡ outcome r) where
   pub protect-refused : (x .number ≡ 0 → ⊥) → ProtectDone T s first n rights r T
   unfolding protectAnswer
-  protect-refused k = refused-call (protectRefusals T s first n rights) r x re xe T (protectPlain (plainOf T) s first n rights) _ 0 k
+  protect-refused k = refused-call (protectRefusals T s first n rights) r x re xe T _ _ 0 k
 
   protect-none : x .number ≡ 0 → NoneApplies (protectRefusals T s first n rights)
   unfolding numbers positive protectRefusals
@@ -100,7 +100,7 @@ module _ (T : Tables) (s first n rights : ℕ) (r : Answer) (x : Outcome) (re : 
 module _ (T : Tables) (s first n : ℕ) (r : Answer) (x : Outcome) (re : r ≡ decide (unmapRefusals T s first n) (Done 0 0)) (xe : x ≡ outcome r) where
   pub unmap-refused : (x .number ≡ 0 → ⊥) → UnmapDone T s first n r T
   unfolding unmapAnswer
-  unmap-refused k = refused-call (unmapRefusals T s first n) r x re xe T (unmapPlain (plainOf T) s first n) _ 0 k
+  unmap-refused k = refused-call (unmapRefusals T s first n) r x re xe T _ _ 0 k
 
   unmap-none : x .number ≡ 0 → NoneApplies (unmapRefusals T s first n)
   unfolding numbers positive unmapRefusals
@@ -123,7 +123,7 @@ module _ (T : Tables) (s first n : ℕ) (r : Answer) (x : Outcome) (re : r ≡ d
 module _ (T : Tables) (s : ℕ) (r : Answer) (x : Outcome) (re : r ≡ decide (closeRefusals T s) (Done 0 0)) (xe : x ≡ outcome r) where
   pub close-refused : (x .number ≡ 0 → ⊥) → CloseDone T s r T
   unfolding closeAnswer
-  close-refused k = refused-call (closeRefusals T s) r x re xe T (closePlain (plainOf T) s) _ 0 k
+  close-refused k = refused-call (closeRefusals T s) r x re xe T _ _ 0 k
 
   close-none : x .number ≡ 0 → NoneApplies (closeRefusals T s)
   unfolding numbers positive closeRefusals
@@ -146,7 +146,7 @@ module _ (T : Tables) (s : ℕ) (r : Answer) (x : Outcome) (re : r ≡ decide (c
 module _ (T : Tables) (s first n rights : ℕ) (r : Answer) (x : Outcome) (re : r ≡ decide (mapRefusals T s first n rights) (Done 0 0)) (xe : x ≡ outcome r) where
   pub map-refused : (x .number ≡ 0 → ⊥) → MapDone T s first n rights r T
   unfolding mapAnswer
-  map-refused k = refused-call (mapRefusals T s first n rights) r x re xe T (mapPlain (plainOf T) s first n rights) _ 0 k
+  map-refused k = refused-call (mapRefusals T s first n rights) r x re xe T _ _ 0 k
 
   map-none : x .number ≡ 0 → NoneApplies (mapRefusals T s first n rights)
   unfolding numbers positive mapRefusals
