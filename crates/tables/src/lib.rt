@@ -3,7 +3,7 @@ ghost use mathlib.Core.Path.{_≡_};
 ghost use Prim.Native.Nat.{ℕ, _+_, _≤_};
 ghost use mathlib.Core.Bool.{true};
 ghost use lib.ListN.{length, replicate};
-ghost use Rattle.layout.specs.Answers.{outcome};
+ghost use Rattle.layout.specs.Answers.{refusal, outcome};
 ghost use Rattle.words.specs.Counts.{count};
 ghost use Rattle.blocks.specs.FrameWords.{lawful, ownersOf, freeIn, frameWords};
 ghost use Rattle.blocks.specs.Choice.{framesFor, blockCount};
@@ -21,6 +21,17 @@ use verdicts::judge_protect;
 use verdicts::judge_set_up;
 use verdicts::judge_unmap;
 
+// The number of a refusal, with zeros.
+fn refusal(number: u32) -> Outcome
+    ensures { λ o. ⌜ o ≡ refusal number ⌝ }
+{
+    Outcome {
+        number: number,
+        first: 0,
+        second: 0,
+    }
+}
+
 // The number, first and second value of an answer.
 pub fn outcome(a: Answer) -> Outcome
     ensures { λ o. ⌜ o ≡ outcome a ⌝ }
@@ -31,81 +42,21 @@ pub fn outcome(a: Answer) -> Outcome
             first: first,
             second: second,
         },
-        Answer::WrongLength => Outcome {
-            number: 1,
-            first: 0,
-            second: 0,
-        },
-        Answer::Unsound => Outcome {
-            number: 2,
-            first: 0,
-            second: 0,
-        },
-        Answer::SeenTooMuch => Outcome {
-            number: 3,
-            first: 0,
-            second: 0,
-        },
-        Answer::WrongPoolSize => Outcome {
-            number: 4,
-            first: 0,
-            second: 0,
-        },
-        Answer::NoSuchSpace => Outcome {
-            number: 5,
-            first: 0,
-            second: 0,
-        },
-        Answer::WrongRights => Outcome {
-            number: 6,
-            first: 0,
-            second: 0,
-        },
-        Answer::WrongAccess => Outcome {
-            number: 7,
-            first: 0,
-            second: 0,
-        },
-        Answer::WrongSpan => Outcome {
-            number: 8,
-            first: 0,
-            second: 0,
-        },
-        Answer::AlreadyOpen => Outcome {
-            number: 9,
-            first: 0,
-            second: 0,
-        },
-        Answer::NotOpen => Outcome {
-            number: 10,
-            first: 0,
-            second: 0,
-        },
-        Answer::AlreadyMapped => Outcome {
-            number: 11,
-            first: 0,
-            second: 0,
-        },
-        Answer::NotMapped => Outcome {
-            number: 12,
-            first: 0,
-            second: 0,
-        },
-        Answer::RightLacking => Outcome {
-            number: 13,
-            first: 0,
-            second: 0,
-        },
-        Answer::TooFewFrames => Outcome {
-            number: 14,
-            first: 0,
-            second: 0,
-        },
-        Answer::NoNumberLeft => Outcome {
-            number: 15,
-            first: 0,
-            second: 0,
-        },
+        Answer::WrongLength => refusal(1),
+        Answer::Unsound => refusal(2),
+        Answer::SeenTooMuch => refusal(3),
+        Answer::WrongPoolSize => refusal(4),
+        Answer::NoSuchSpace => refusal(5),
+        Answer::WrongRights => refusal(6),
+        Answer::WrongAccess => refusal(7),
+        Answer::WrongSpan => refusal(8),
+        Answer::AlreadyOpen => refusal(9),
+        Answer::NotOpen => refusal(10),
+        Answer::AlreadyMapped => refusal(11),
+        Answer::NotMapped => refusal(12),
+        Answer::RightLacking => refusal(13),
+        Answer::TooFewFrames => refusal(14),
+        Answer::NoNumberLeft => refusal(15),
     }
 }
 

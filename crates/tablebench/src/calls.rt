@@ -1,0 +1,60 @@
+// Making tables, and timing the call that checks them and changes nothing: a refused open of space 0.
+use crate::clock;
+use crate::table;
+
+// Opens the spaces below `mapped` and maps every page of each.
+fn map_spaces(
+    control: &mut [u32],
+    frames: &mut [u32],
+    pages: &mut [u32],
+    ranges: &mut [u32],
+    mapped: u32,
+) {
+    for space in 0..mapped {
+        tables::open(control, frames, pages, ranges, space);
+        tables::map(control, frames, pages, ranges, space, 0, 1024, 7);
+    }
+}
+
+// Sets up a pool of 4,096 frames, with space 0 open and every page of the spaces below `mapped` mapped.
+pub fn fill(
+    control: &mut [u32],
+    frames: &mut [u32],
+    pages: &mut [u32],
+    ranges: &mut [u32],
+    mapped: u32,
+) {
+    tables::set_up_pool(control, frames, pages, ranges, 4096);
+    tables::open(control, frames, pages, ranges, 0);
+    map_spaces(control, frames, pages, ranges, mapped);
+}
+
+// The time of a hundred calls.
+fn hundred(control: &mut [u32], frames: &[u32], pages: &[u32], ranges: &[u32]) -> u64 {
+    let start = clock::used();
+    for _ in 0..100u32 {
+        tables::open(control, frames, pages, ranges, 0);
+    }
+    clock::since(start)
+}
+
+// The time of the fastest hundred calls out of `rounds` hundreds.
+fn fastest(rounds: u32, control: &mut [u32], frames: &[u32], pages: &[u32], ranges: &[u32]) -> u64 {
+    let mut best = hundred(control, frames, pages, ranges);
+    for _ in 1..rounds {
+        let t = hundred(control, frames, pages, ranges);
+        if t < best {
+            best = t;
+        }
+    }
+    best
+}
+
+// What the call answers, or where rounds are asked for its time.
+pub fn cell(rounds: u32, control: &mut [u32], frames: &[u32], pages: &[u32], ranges: &[u32]) {
+    if rounds == 0 {
+        table::answer(tables::open(control, frames, pages, ranges, 0));
+    } else {
+        table::hundredths(fastest(rounds, control, frames, pages, ranges));
+    }
+}
