@@ -20,8 +20,17 @@ use Rattle.pointing.specs.Pointing.{pointed}
 use Rattle.layout.specs.Tables.{Tables, tables, rightLengths, spacePages, spaceRanges}
 use Rattle.layout.specs.Sound.{soundSpace, emptyOrOpen, sound}
 use Rattle.layout.proofs.SoundLaws.{Lengths, lengths-at}
-use Rattle.judging.specs.Judging.{pageMapped, partSound, spaceSound}
+use Rattle.judging.specs.Judging.{pageMapped, partSound, spaceSound, soundBuffers}
 use Rattle.judging.proofs.SpanLaws.{none-any}
+
+-- buffers of any lengths
+pub bad-lengths : (T : Tables) → rightLengths T ≡ false → false ≡ soundBuffers T
+unfolding soundBuffers
+bad-lengths T f = rw f
+
+pub by-tables : (T : Tables) → rightLengths T ≡ true → (r : Bool) → r ≡ sound T → r ≡ soundBuffers T
+unfolding soundBuffers
+by-tables T t r e = rw t e
 
 -- lengths
 

@@ -2,6 +2,7 @@
 mod soundness;
 mod spans;
 
+pub use crate::soundness::check;
 pub use crate::soundness::right_lengths;
 pub use crate::soundness::tables_sound;
 pub use crate::spans::all_mapped;

@@ -5,7 +5,7 @@ ghost use lib.ListN.{length};
 ghost use Rattle.words.specs.Searches.{allFrom};
 ghost use Rattle.layout.specs.Tables.{tables, rightLengths};
 ghost use Rattle.layout.specs.Sound.{sound};
-ghost use Rattle.judging.specs.Judging.{partSound, spaceSound};
+ghost use Rattle.judging.specs.Judging.{partSound, spaceSound, soundBuffers};
 use crate::spans::any_mapped;
 
 // Whether each buffer has its length.
@@ -79,4 +79,14 @@ pub fn tables_sound(control: &[u32], frames: &[u32], pages: &[u32], ranges: &[u3
         return false;
     }
     pointing::pointing(frames, pages, pool)
+}
+
+// Whether buffers of any lengths are four buffers of sound tables.
+pub fn check(control: &[u32], frames: &[u32], pages: &[u32], ranges: &[u32]) -> bool
+    ensures { λ r. ⌜ r ≡ soundBuffers (tables (now (control .entry)) (now (frames .entry)) (now (pages .entry)) (now (ranges .entry))) ⌝ }
+{
+    if !right_lengths(control, frames, pages, ranges) {
+        return false;
+    }
+    tables_sound(control, frames, pages, ranges)
 }
