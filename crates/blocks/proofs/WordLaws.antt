@@ -72,10 +72,6 @@ pub free-same : (o p : ℕ → ℕ) (f : ℕ) → o f ≡ p f → freeOf o f ≡
 unfolding freeOf
 free-same o p f e = rw e
 
-pub free-in : (b : List ℕ) → freeIn b ≡ freeOf (ownersOf b)
-unfolding freeIn
-free-in b = refl
-
 pub free-zero : (b : List ℕ) (g : ℕ) → freeIn b g ≡ true → ownersOf b g ≡ 0
 unfolding freeIn
 free-zero b g t = free-at (ownersOf b) g t

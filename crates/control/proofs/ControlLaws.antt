@@ -3,7 +3,7 @@ use mathlib.Core.Path.{_≡_, refl, ap, _∙_, sym}
 use mathlib.Core.Bool.{Bool, true, false, _&&_}
 use mathlib.Core.List.{List}
 use Prim.Native.Nat.{ℕ, zero, suc, _+_, _-_, _%_, _^_, _≤_, _<_, zero-le}
-use native.Mathlib.Nat.{mod-lt, mod-eq-of-lt, zero-div, add-zero}
+use native.Mathlib.Nat.{mod-lt, mod-eq-of-lt, add-zero}
 use native.Mathlib.Decide.{decLe, ℕ-discrete}
 use native.Mathlib.Omega.{arith}
 use lib.Dec.{leb, eqb}
@@ -15,7 +15,7 @@ use Rattle.words.proofs.Cases.{by-test, by-dec, true-false, and-true, true-and}
 use Rattle.words.proofs.SearchLaws.{allFrom-at, at-allFrom}
 use Rattle.blocks.specs.FrameWords.{isPoolSize}
 use Rattle.control.specs.Control.{poolSize, removals, openMask, placeOf, recordSpace, recordFirst, recordCount, withRemovals, withMask, withRecord, used, recordOk, recordFits, lawfulControl, isOpen, opened, closedMask, appended, freshControl}
-use Rattle.control.proofs.MaskLaws.{set-here, set-other, set-fits, cleared-here, cleared-other}
+use Rattle.control.proofs.MaskLaws.{set-here, set-other, set-fits, cleared-other}
 
 -- the places lie inside the buffer, behind the fields before them, and apart from each other
 
@@ -279,10 +279,6 @@ used-kept C j h ne =
     true-false (used C j) (used-exactly C j h .1 (record { number = s .number; low = s .low; high = omega (arith, s .high); there = s .there })) no-one)
     (λ f. f ∙ sym no-one))
 
--- fewer than 64 records apart stand in two places
-pub two-places : (a b : ℕ) → a < b → b < a + 64 → (a % 64 ≡ b % 64 → ⊥)
-two-places a b lt near e = omega arith
-
 -- what the code finds
 pub used-all : (C j : ℕ) → 64 ≤ C → true ≡ used C j
 unfolding used
@@ -366,14 +362,6 @@ says-lawful c s = true-and _ _ (s .pool) (true-and _ _ (le-leb _ _ (s .mask)) (a
 pub lawful-no : (c : List ℕ) → (Sound c → ⊥) → false ≡ lawfulControl c
 lawful-no c n = by-test (lawfulControl c) (λ t. absurd (n (lawful-says c t))) (λ t. sym t)
 
--- record m of a lawful control buffer
-pub record-says : (c : List ℕ) → lawfulControl c ≡ true → (m : ℕ) → 1 ≤ m → m ≤ removals c
-    → (recordSpace c (m % 64) ≤ 3) × (1 ≤ recordCount c (m % 64)) × (recordFirst c (m % 64) + recordCount c (m % 64) ≤ 1024)
-unfolding recordFits
-record-says c t m lo hi =
-    let h : m % 64 < 64 = mod-lt m (omega arith) in
-    used-says _ _ _ _ (used-exactly (removals c) (m % 64) h .1 (record { number = m; low = lo; high = hi; there = refl })) (lawful-says c t .fits (m % 64) h)
-
 pub lawful-records : (c : List ℕ) → isPoolSize (poolSize c) ≡ true → openMask c ≤ 15 → allFrom 64 0 (recordFits c) ≡ lawfulControl c
 unfolding lawfulControl
 lawful-records c p m = rw (p, le-leb (openMask c) 15 m)
@@ -389,10 +377,6 @@ fresh-lawful F t =
       mask = omega arith;
       fits = λ j h. let z = fresh-places F j h in sym (unused-yes _ _ _ _ (rw (fresh-removals F) (used-none j h)) (z .0) (z .1) (z .2));
     })
-
-pub fresh-shut : (F s : ℕ) → isOpen (openMask (freshControl F)) s ≡ false
-unfolding isOpen
-fresh-shut F s = rw (fresh-mask F, zero-div (2 ^ s))
 
 new-fits : (c : List ℕ) (s f n : ℕ) → length c ≡ 195 → s ≤ 3 → 1 ≤ n → f + n ≤ 1024 → recordFits (appended c s f n) ((removals c + 1) % 64) ≡ true
 unfolding recordFits
@@ -447,9 +431,6 @@ module _ (c : List ℕ) (s : ℕ) (len : length c ≡ 195) (is-open : isOpen (op
   pub closed-lawful : lawfulControl c ≡ true → lawfulControl (closedMask c s) ≡ true
   unfolding closedMask
   closed-lawful t = let m = lawful-says c t .mask in mask-lawful c (openMask c - 2 ^ s) len t (omega arith)
-
-  pub closed-here : isOpen (openMask (closedMask c s)) s ≡ false
-  closed-here = rw closed-mask (cleared-here (openMask c) s is-open)
 
   pub closed-other : (t : ℕ) → (t ≡ s → ⊥) → isOpen (openMask (closedMask c s)) t ≡ isOpen (openMask c) t
   closed-other t ne = rw closed-mask (cleared-other (openMask c) s is-open t ne)

@@ -140,12 +140,6 @@ module _ (ws : List ℕ) where
       let k : suc (p - x) ≡ suc p - x = omega arith in
       rw (add-one p) ((rw e at c) ∙ k)
 
-  pub running-none : (p : ℕ) → mapped (word p) ≡ false → runTo ws p ≡ 0
-  unfolding runTo one-if
-  running-none p m =
-      let no : joins (wordBefore ws p) (word p) ≡ false = by-test (joins (wordBefore ws p) (word p)) (λ t. true-false _ (joins-at _ _ t .next) m) (λ t. t) in
-      rw (add-one p) (before-suc ws p ∙ goes-new _ _ _ no ∙ rw m)
-
   longest-before : (x y : ℕ) → Longest ws x y → runBefore ws y ≡ y - x
   longest-before x y l =
       let some = l .run .some in
