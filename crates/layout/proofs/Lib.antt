@@ -6,3 +6,4 @@ pub mod CallLaws
 pub mod AgainLaws
 pub mod StepLaws
 pub mod DoneLaws
+pub mod AcceptedLaws
