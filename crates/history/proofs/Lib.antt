@@ -1,0 +1,5 @@
+pub mod UnitLaws
+pub mod HeldLaws
+pub mod AgreeLaws
+pub mod LogLaws
+pub mod RangeLaws
