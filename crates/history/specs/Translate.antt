@@ -49,12 +49,12 @@ unfoldable pub inRanges : TlbUnit → Option ℕ → ℕ → Finding
 inRanges u none w = inWord w
 inRanges u (some k) w = ByRange k (getD (u .ranges) k noRange)
 
--- "the first of these that holds the page decides", for a unit that has caught up; "a page sits at page mod 64"
-unfoldable pub finding : Tables → TlbUnit → ℕ → ℕ → Finding
-finding T u s p =
+-- "the first of these that holds the page decides", for a unit that has caught up and the page word w; "a page sits at page mod 64"
+unfoldable pub finding : TlbUnit → ℕ → ℕ → ℕ → Finding
+finding u s p w =
     elim (holdsPage (getD (u .pages) (p % 64) noPage) s p) [
       | true ↦ ByPage (getD (u .pages) (p % 64) noPage)
-      | false ↦ inRanges u (coveringPlace u s p) (getD (spacePages (T .pages) s) p 0)
+      | false ↦ inRanges u (coveringPlace u s p) w
     ]
 
 unfoldable pub isFound : Finding → Bool
@@ -108,12 +108,12 @@ tableRange s rs p = elim (firstFrom 128 0 (λ j. covers (tableEntry s rs j) s p)
 unfoldable pub withTableRange : Bool → TlbUnit → RangeEntry → TlbUnit
 withTableRange bit u e = elim bit [ true ↦ withRange u e | false ↦ u ]
 
--- "Way 2 installs the page entry and sets last used. Way 3 installs the page entry and, if the range bit is set, puts the range at the place to replace"; way 1 installs nothing
-unfoldable pub installed : Tables → TlbUnit → ℕ → ℕ → Finding → TlbUnit
-installed T u s p (ByPage e) = u
-installed T u s p (ByRange k e) = withLast (withPage u (entryFor s p (frameBy (e .offset) p) (e .rights))) k
-installed T u s p (ByWord w) = withTableRange (rangeBit w) (withPage u (entryFor s p (frameIn w) (rightsIn w))) (tableRange s (spaceRanges (T .ranges) s) p)
-installed T u s p Nowhere = u
+-- "Way 2 installs the page entry and sets last used. Way 3 installs the page entry and, if the range bit is set, puts the range at the place to replace"; way 1 installs nothing; rs are the range words of the space
+unfoldable pub installed : TlbUnit → ℕ → ℕ → List ℕ → Finding → TlbUnit
+installed u s p rs (ByPage e) = u
+installed u s p rs (ByRange k e) = withLast (withPage u (entryFor s p (frameBy (e .offset) p) (e .rights))) k
+installed u s p rs (ByWord w) = withTableRange (rangeBit w) (withPage u (entryFor s p (frameIn w) (rightsIn w))) (tableRange s rs p)
+installed u s p rs Nowhere = u
 
 -- conditions, in document 01's words
 
@@ -151,7 +151,7 @@ rightLacking x f = record { when = not (allows (rightsFound f) x); answer = Righ
 
 -- translate
 unfoldable pub found : Tables → TlbUnit → ℕ → ℕ → Finding
-found T u s p = finding T (caughtUp (T .control) u) s p
+found T u s p = finding (caughtUp (T .control) u) s p (getD (spacePages (T .pages) s) p 0)
 
 -- "Lowest applying number first."
 unfoldable pub translateRefusals : Tables → TlbUnit → ℕ → ℕ → ℕ → List (Refusal Answer)
@@ -172,7 +172,7 @@ unfoldable pub translateAnswer : Tables → TlbUnit → ℕ → ℕ → ℕ → 
 translateAnswer T u s p x = decide (translateRefusals T u s p x) (Done (frameFound p (found T u s p)) (wayFound (found T u s p)))
 
 unfoldable pub translatedUnit : Tables → TlbUnit → ℕ → ℕ → TlbUnit
-translatedUnit T u s p = installed T (caughtUp (T .control) u) s p (found T u s p)
+translatedUnit T u s p = installed (caughtUp (T .control) u) s p (spaceRanges (T .ranges) s) (found T u s p)
 
 -- what translate promises; the tables are lent to be read. "buffers and unit stay untouched, a unit's catching up included"
 pub record TranslateDone (T : Tables) (u : TlbUnit) (s p x : ℕ) (r : Answer) (u′ : TlbUnit) : Type 0 where
