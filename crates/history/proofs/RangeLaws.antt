@@ -70,7 +70,7 @@ has-at x y l more (later {a} {b} {o} {r} {more = rest} k) =
     let d : 4 * suc j + 1 ≡ (4 * j + 1) + 4 = omega arith in
     (suc j, omega (arith, w .1), rw (e, four-on a b o r (rest ++ more) (4 * j)) (w .2), rw (d, four-on a b o r (rest ++ more) (4 * j + 1)) (w .3))
 
-rights-low : (w : ℕ) → rightsIn w ≤ 7
+pub rights-low : (w : ℕ) → rightsIn w ≤ 7
 unfolding rightsIn
 rights-low w = omega arith
 

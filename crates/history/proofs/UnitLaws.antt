@@ -42,11 +42,11 @@ covers-page e s p t =
     let c = and-true (leb (e .base) p) (ltb p (e .limit)) (b .1) in
     (eqb-true _ _ (a .0), eqb-true _ _ (b .0), leb-true _ _ (c .0), ltb-true _ _ (c .1))
 
-no-page-invalid : noPage .valid ≡ 0
+pub no-page-invalid : noPage .valid ≡ 0
 unfolding noPage
 no-page-invalid = refl
 
-no-range-invalid : noRange .valid ≡ 0
+pub no-range-invalid : noRange .valid ≡ 0
 unfolding noRange
 no-range-invalid = refl
 
