@@ -1,14 +1,13 @@
 -- Catching up: an entry that stays is one that no unseen record names, and the unit stays well formed.
 use mathlib.Core.Path.{_≡_, refl, ap, _∙_, sym}
-use mathlib.Core.Bool.{Bool, true, false, _&&_, not}
+use mathlib.Core.Bool.{true, false}
 use mathlib.Core.List.{List}
 use Prim.Native.Nat.{ℕ, zero, suc, _+_, _-_, _<_, _≤_}
 use native.Mathlib.Decide.{decLt, ℕ-discrete}
-use native.Mathlib.Nat.{zero-add}
 use native.Mathlib.Omega.{arith}
-use lib.Dec.{eqb, leb, ltb}
+use lib.Dec.{eqb, ltb}
 use lib.ListN.{length, getD}
-use borrow.Author.Tests.{eq-eqb, eqb-true, leb-true, le-leb, ltb-true, lt-ltb, ltb-false}
+use borrow.Author.Tests.{eq-eqb, eqb-true, ltb-true, lt-ltb, ltb-false}
 use Rattle.words.specs.Tables.{imap}
 use Rattle.words.proofs.Cases.{by-test, by-dec, true-false, and-true, true-and}
 use Rattle.words.proofs.TableLaws.{length-imap, getD-imap}
@@ -19,9 +18,9 @@ use Rattle.history.specs.declared.PageEntry.{PageEntry}
 use Rattle.history.specs.declared.RangeEntry.{RangeEntry}
 use Rattle.history.specs.declared.Unit.{Unit as TlbUnit}
 use Rattle.history.specs.declared.Removal.{Removal}
-use Rattle.history.specs.Units.{noPage, noRange, emptied, pageEntryOk, rangeEntryOk, lastOk}
+use Rattle.history.specs.Units.{noPage, noRange, emptied, lastOk}
 use Rattle.history.specs.CatchUp.{removalAt, names, namesEntry, overlaps, keepPage, keepRange, keepLast, dropped, applied, seenAll, caughtUp}
-use Rattle.history.proofs.UnitLaws.{beyond, page-place, range-place, no-page-invalid, no-range-invalid, WellFormed, no-page-ok, no-range-ok, none-last, valid-last, emptied-formed, emptied-page-invalid, emptied-range-invalid}
+use Rattle.history.proofs.UnitLaws.{beyond, no-page-invalid, no-range-invalid, WellFormed, no-page-ok, no-range-ok, none-last, valid-last, emptied-formed, emptied-page-invalid, emptied-range-invalid}
 
 -- an entry that is none is not named
 none-named : (d : Removal) → namesEntry d noPage ≡ false
@@ -159,11 +158,12 @@ unfolding applied
 applied-page c zero m u k v = (refl, λ i lo hi. absurd (omega arith))
 applied-page c (suc n) m u k v =
     let a = applied-page c n (suc m) (dropped (removalAt c m) u) k v in
-    let b = dropped-page-valid (removalAt c m) u k (ap (λ (e : PageEntry). e .valid) (sym (a .0)) ∙ v) in
-    (a .0 ∙ b .0,
-    λ i lo hi. by-dec (ℕ-discrete i m)
-    (λ e. rw e (b .1))
-    (λ ne. ap (namesEntry (removalAt c i)) (sym (b .0)) ∙ a .1 i (omega arith) (omega arith)))
+    let b = dropped-page-valid (removalAt c m) u k (ap (λ (e : PageEntry). e .valid) (sym (a .0)) ∙ v) in (
+      a .0 ∙ b .0,
+      λ i lo hi. by-dec (ℕ-discrete i m)
+          (λ e. rw e (b .1))
+          (λ ne. ap (namesEntry (removalAt c i)) (sym (b .0)) ∙ a .1 i (omega arith) (omega arith)),
+    )
 
 applied-range : (c : List ℕ) (n m : ℕ) (u : TlbUnit) (k : ℕ) → getD (applied c n m u .ranges) k noRange .valid ≡ 1
     → (getD (applied c n m u .ranges) k noRange ≡ getD (u .ranges) k noRange) × ((i : ℕ) → m ≤ i → i < m + n → overlaps (removalAt c i) (getD (u .ranges) k noRange) ≡ false)
@@ -171,11 +171,12 @@ unfolding applied
 applied-range c zero m u k v = (refl, λ i lo hi. absurd (omega arith))
 applied-range c (suc n) m u k v =
     let a = applied-range c n (suc m) (dropped (removalAt c m) u) k v in
-    let b = dropped-range-valid (removalAt c m) u k (ap (λ (e : RangeEntry). e .valid) (sym (a .0)) ∙ v) in
-    (a .0 ∙ b .0,
-    λ i lo hi. by-dec (ℕ-discrete i m)
-    (λ e. rw e (b .1))
-    (λ ne. ap (overlaps (removalAt c i)) (sym (b .0)) ∙ a .1 i (omega arith) (omega arith)))
+    let b = dropped-range-valid (removalAt c m) u k (ap (λ (e : RangeEntry). e .valid) (sym (a .0)) ∙ v) in (
+      a .0 ∙ b .0,
+      λ i lo hi. by-dec (ℕ-discrete i m)
+          (λ e. rw e (b .1))
+          (λ ne. ap (overlaps (removalAt c i)) (sym (b .0)) ∙ a .1 i (omega arith) (omega arith)),
+    )
 
 -- a unit that has caught up
 

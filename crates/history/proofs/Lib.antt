@@ -5,3 +5,8 @@ pub mod AgreeLaws
 pub mod LogLaws
 pub mod RangeLaws
 pub mod FindLaws
+pub mod Invariant
+pub mod AnswerLaws
+pub mod StepLaws
+pub mod ListLaws
+pub mod WholeList

@@ -1,13 +1,11 @@
 -- The removal log: the ring of the control buffer has the last 64 records that accepted calls had to append.
 use mathlib.Core.Path.{_≡_, refl, ap, _∙_, sym}
-use mathlib.Core.Bool.{true, false}
 use mathlib.Core.List.{List, [], _∷_, _++_}
-use Prim.Native.Nat.{ℕ, zero, suc, _+_, _-_, _%_, _<_, _≤_, zero-le}
+use Prim.Native.Nat.{ℕ, zero, suc, _+_, _-_, _%_, _<_}
 use native.Mathlib.Omega.{arith}
-use lib.ListN.{length, getD, length-append, List·getD-append}
-use Rattle.words.specs.Searches.{every}
+use lib.ListN.{length, getD}
 use Rattle.words.proofs.Cases.{by-test}
-use Rattle.control.specs.Control.{removals, withMask, opened, closedMask, appended}
+use Rattle.control.specs.Control.{removals, withMask, appended}
 use Rattle.control.proofs.ControlLaws.{SamePlace, mask-length, mask-removals, mask-places, appended-length, appended-removals, appended-space, appended-first, appended-count, appended-places, fresh-length, fresh-removals}
 use Rattle.control.specs.Control.{freshControl}
 use Rattle.history.specs.declared.Removal.{Removal}

@@ -3,7 +3,7 @@ use mathlib.Core.Path.{_≡_}
 use mathlib.Core.Bool.{Bool, true, _&&_, _||_, not}
 use mathlib.Core.List.{List}
 use mathlib.Core.Logic.{_↔_}
-use mathlib.Core.Option.{Option, some}
+use mathlib.Core.Option.{some}
 use Prim.Native.Nat.{ℕ, _+_, _≤_, _<_}
 use lib.Dec.{leb, eqb}
 use lib.ListN.{length, getD}
@@ -12,7 +12,7 @@ use Rattle.words.specs.Searches.{every, anyFrom, is-some}
 use Rattle.runs.specs.PageWords.{mapped, frameIn}
 use Rattle.layout.specs.declared.Answer.{Answer}
 use Rattle.layout.specs.Answers.{outcome}
-use Rattle.layout.specs.Tables.{Tables, spacePages, spaceRanges}
+use Rattle.layout.specs.Tables.{spacePages, spaceRanges}
 use Rattle.history.specs.declared.PageEntry.{PageEntry}
 use Rattle.history.specs.declared.RangeEntry.{RangeEntry}
 use Rattle.history.specs.declared.Unit.{Unit as TlbUnit}
@@ -90,5 +90,5 @@ pub record Lasting (F n : ℕ) (W : World) (past : List Event) : Type 0 where
   pub balance : count F (λ f. isFreeWord (getD (W .tables .frames) f 0)) + heldPages (history F past) ≡ F
 
 -- Demand 3: "for every list of these calls .. all of this holds after it". "Demand 3 is a single statement about the whole list and not one for each call."
-pub Demand3 : Type 0
+unfoldable pub Demand3 : Type 0
 Demand3 = (F n : ℕ) (W : World) (past : List Event) → ListOfCalls F n W past → Lasting F n W past
