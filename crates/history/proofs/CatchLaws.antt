@@ -184,14 +184,16 @@ pub caught-seen : (c : List ℕ) (u : TlbUnit) → caughtUp c u .seen ≡ remova
 unfolding caughtUp seenAll emptied
 caught-seen c u = by-test (ltb 64 (removals c - u .seen)) (λ y. rw (y, caughtUp)) (λ n. rw (n, caughtUp))
 
+seen-formed : (c : List ℕ) (u : TlbUnit) → WellFormed u → WellFormed (seenAll c u)
+unfolding seenAll
+seen-formed c u w = record { pages-long = w .pages-long; ranges-long = w .ranges-long; page = w .page; range = w .range; last = w .last; next = w .next }
+
 pub caught-formed : (c : List ℕ) (u : TlbUnit) → WellFormed u → WellFormed (caughtUp c u)
-unfolding caughtUp seenAll
+unfolding caughtUp
 caught-formed c u w =
     by-test (ltb 64 (removals c - u .seen))
     (λ y. rw (y, caughtUp) (emptied-formed (removals c)))
-    (λ n.
-    let a = applied-formed c (removals c - u .seen) (u .seen + 1) u w in
-    rw (n, caughtUp) (record { pages-long = a .pages-long; ranges-long = a .ranges-long; page = a .page; range = a .range; last = a .last; next = a .next }))
+    (λ n. rw (n, caughtUp) (seen-formed c _ (applied-formed c _ _ u w)))
 
 -- a valid entry then was there before, at most 64 records were unseen, and none of them names it
 pub caught-page : (c : List ℕ) (u : TlbUnit) (k : ℕ) → getD (caughtUp c u .pages) k noPage .valid ≡ 1
@@ -202,7 +204,7 @@ caught-page c u k =
     by-test (ltb 64 (removals c - u .seen))
     (λ y. rw (y, caughtUp) (λ v. absurd (emptied-page-invalid (removals c) k v)))
     (λ n. rw (n, caughtUp) (λ v.
-    let a = applied-page c (removals c - u .seen) (u .seen + 1) u k v in
+    let a = applied-page c _ _ u k v in
     let was : getD (u .pages) k noPage .valid ≡ 1 = ap (λ (e : PageEntry). e .valid) (sym (a .0)) ∙ v in
     (a .0, ltb-false 64 (removals c - u .seen) n, λ i lo hi. unnamed-page (removalAt c i) (getD (u .pages) k noPage) was (a .1 i (omega arith) (omega arith)))))
 
@@ -214,6 +216,6 @@ caught-range c u k =
     by-test (ltb 64 (removals c - u .seen))
     (λ y. rw (y, caughtUp) (λ v. absurd (emptied-range-invalid (removals c) k v)))
     (λ n. rw (n, caughtUp) (λ v.
-    let a = applied-range c (removals c - u .seen) (u .seen + 1) u k v in
+    let a = applied-range c _ _ u k v in
     let was : getD (u .ranges) k noRange .valid ≡ 1 = ap (λ (e : RangeEntry). e .valid) (sym (a .0)) ∙ v in
     (a .0, ltb-false 64 (removals c - u .seen) n, λ i p lo hi from to. unnamed-range (removalAt c i) (getD (u .ranges) k noRange) was (a .1 i (omega arith) (omega arith)) p from to)))
