@@ -1,0 +1,12 @@
+use Rattle.history.specs.Units.{noPage, noRange, emptied}
+use borrow.Author.Needs.{needs}
+use Rattle.catching.proofs.catch_up.emptied.Statement.{statement}
+use Rattle.catching.proofs.catch_up.emptied.Tie as tie
+
+-- src/catch_up.rt:157:1
+returns : tie.Need-returns
+unfolding emptied noPage noRange
+returns c = search needs
+
+pub emptied-spec : {M : Type 1} → statement M
+emptied-spec = tie.close (tie.spec returns)
