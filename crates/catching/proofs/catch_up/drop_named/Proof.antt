@@ -1,3 +1,5 @@
+use Rattle.catching.specs.Entries.{withPagesKept, withRangesKept}
+use Rattle.history.specs.CatchUp.{dropped}
 use borrow.Author.Needs.{needs}
 use Rattle.catching.proofs.catch_up.drop_named.Statement.{statement}
 use Rattle.catching.proofs.catch_up.drop_named.Tie as tie
@@ -16,7 +18,8 @@ keep-ranges-requires c κs = search needs
 
 -- src/catch_up.rt:143:1
 returns : tie.Need-returns
-returns c = search needs
+unfolding dropped withPagesKept withRangesKept
+returns c = rw (c .keep-ranges .ensures, c .before .keep-pages .ensures, c .before .before .keep-last .ensures)
 
 pub drop-named-spec : {M : Type 1} → statement M
 drop-named-spec =

@@ -1,16 +1,21 @@
+use Rattle.catching.proofs.RecordLaws.{record-ends, applied-step, applied-end}
+use Rattle.history.specs.CatchUp.{applied}
+use native.Mathlib.Omega.{arith}
+use Prim.Native.Nat.{_+_, _-_, _≤_}
+use mathlib.Core.Path.{_≡_, refl, sym, _∙_}
 use borrow.Author.Needs.{needs}
 use Rattle.catching.proofs.catch_up.drop_unseen.Statement.{statement}
 use Rattle.catching.proofs.catch_up.drop_unseen.Tie as tie
 
 abbrev Inv-loop : tie.InvT-loop
-Inv-loop control seen c v₀ m₀ v m = ?
+Inv-loop control seen c v₀ m₀ v m = (m ≤ c) × ((seen ≤ m) × (applied control (c - seen) (seen + 1) v₀ ≡ applied control (c - m) (m + 1) v))
 
 abbrev μ-loop : tie.MeasureT-loop
-μ-loop control seen c v₀ m₀ v m = ?
+μ-loop control seen c v₀ m₀ v m = c - m
 
 -- src/catch_up.rt:194:5
 loop-holds : tie.Need-loop-holds Inv-loop μ-loop
-loop-holds c = search needs
+loop-holds c = (omega arith, (omega arith, refl))
 
 -- src/catch_up.rt:195:9
 add-m : tie.Need-add-m Inv-loop μ-loop
@@ -22,7 +27,7 @@ removal-at-requires c κs = search needs
 
 -- src/catch_up.rt:197:9
 drop-named-requires : tie.Need-drop-named-requires Inv-loop μ-loop
-drop-named-requires c κs = search needs
+drop-named-requires c κs = rw (c .removal-at .ensures) (record-ends _ (c .before .before .loop .m + 1) (c .before .before .before .before .pre .1 .0) (omega arith) (omega arith))
 
 -- src/catch_up.rt:194:5
 loop-less : tie.Need-loop-less Inv-loop μ-loop
@@ -30,11 +35,11 @@ loop-less c = search needs
 
 -- src/catch_up.rt:194:5
 loop-again : tie.Need-loop-again Inv-loop μ-loop
-loop-again c = search needs
+loop-again c = (omega arith, (omega arith, c .before .before .before .loop .inv .1 .1 ∙ applied-step _ _ _ _ (c .before .before .loop-test .taken) ∙ rw (c .drop-named .ensures, c .before .removal-at .ensures) refl))
 
 -- src/catch_up.rt:185:1
 returns : tie.Need-returns Inv-loop μ-loop
-returns c = search needs
+returns c = applied-end _ _ _ _ (c .loop-test .left) ∙ sym (c .before .loop .inv .1 .1)
 
 pub drop-unseen-spec : {M : Type 1} → statement M
 drop-unseen-spec =
