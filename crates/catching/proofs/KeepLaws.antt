@@ -1,6 +1,6 @@
 -- Entries that are kept or dropped one after the other.
 use mathlib.Core.Path.{_≡_, refl, ap, _∙_, sym}
-use mathlib.Core.Bool.{Bool, true, false}
+use mathlib.Core.Bool.{true, false}
 use mathlib.Core.List.{List}
 use Prim.Native.Nat.{ℕ, _+_, _≤_, _<_}
 use native.Mathlib.Nat.{zero-add}
@@ -20,6 +20,7 @@ use Rattle.history.specs.declared.Removal.{Removal}
 use Rattle.history.specs.Units.{noRange}
 use Rattle.history.specs.CatchUp.{overlaps, keepLast}
 use Rattle.history.proofs.UnitLaws.{beyond}
+use Rattle.catching.specs.Entries.{withPages, withRanges}
 
 -- f of the entry at place k, where that is one of the first n places
 unfoldable pub changedBelow : {A : Type 0} → (A → A) → ℕ → ℕ → A → A
@@ -67,13 +68,6 @@ module _ {A : Type 0} (f : A → A) (l : List A) (d : A) where
   pub all-changed : (n : ℕ) → length l ≤ n → changedTo f n l ≡ imap (λ k e. f e) 0 l
   all-changed n h =
       is-imap (λ k e. f e) l (changedTo f n l) d d (length-changed n) (λ k hk. changed-at n k hk ∙ changed-below f n k _ (omega arith))
-
--- a unit with other page entries, or with other range entries
-abbrev pub withPages : TlbUnit → List PageEntry → TlbUnit
-withPages u ps = record { pages = ps; ranges = u .ranges; last = u .last; next = u .next; seen = u .seen }
-
-abbrev pub withRanges : TlbUnit → List RangeEntry → TlbUnit
-withRanges u rs = record { pages = u .pages; ranges = rs; last = u .last; next = u .next; seen = u .seen }
 
 -- one entry more
 pub next-page : (f : PageEntry → PageEntry) (u v : TlbUnit) (n : ℕ) (e d : PageEntry) → v ≡ withPages u (changedTo f n (u .pages)) → n < length (u .pages) → e ≡ f (getD (u .pages) n d)

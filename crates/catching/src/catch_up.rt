@@ -3,10 +3,11 @@ ghost use mathlib.Core.Path.{_≡_};
 ghost use mathlib.Core.Bool.{true};
 ghost use Prim.Native.Nat.{_+_, _-_, _≤_};
 ghost use lib.ListN.{length};
+ghost use Rattle.words.specs.Tables.{imap};
 ghost use Rattle.control.specs.Control.{removals, lawfulControl};
 ghost use Rattle.history.specs.Units.{emptied};
 ghost use Rattle.history.specs.CatchUp.{removalAt, namesEntry, overlaps, keepPage, keepRange, keepLast, dropped, applied, caughtUp};
-ghost use Rattle.catching.specs.Entries.{withPagesKept, withRangesKept};
+ghost use Rattle.catching.specs.Entries.{withPages, withRanges};
 use history::PageEntry;
 use history::RangeEntry;
 use history::Removal;
@@ -98,7 +99,7 @@ fn keep_range(d: Removal, e: RangeEntry) -> RangeEntry
 // Drops the page entries that the record names.
 fn keep_pages(u: Unit, d: Removal) -> Unit
     requires { ⌜ d .first + d .count ≤ 1024 ⌝ }
-    ensures { λ r. ⌜ r ≡ withPagesKept d u ⌝ }
+    ensures { λ r. ⌜ r ≡ withPages u (imap (λ k e. keepPage d e) 0 (u .pages)) ⌝ }
 {
     let mut v = u;
     for k in 0..64 {
@@ -112,7 +113,7 @@ fn keep_pages(u: Unit, d: Removal) -> Unit
 // Drops the range entries that overlap the record.
 fn keep_ranges(u: Unit, d: Removal) -> Unit
     requires { ⌜ d .first + d .count ≤ 1024 ⌝ }
-    ensures { λ r. ⌜ r ≡ withRangesKept d u ⌝ }
+    ensures { λ r. ⌜ r ≡ withRanges u (imap (λ k e. keepRange d e) 0 (u .ranges)) ⌝ }
 {
     let mut v = u;
     for k in 0..32 {

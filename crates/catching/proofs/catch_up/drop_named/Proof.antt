@@ -1,4 +1,3 @@
-use Rattle.catching.specs.Entries.{withPagesKept, withRangesKept}
 use Rattle.history.specs.CatchUp.{dropped}
 use borrow.Author.Needs.{needs}
 use Rattle.catching.proofs.catch_up.drop_named.Statement.{statement}
@@ -18,7 +17,7 @@ keep-ranges-requires c κs = search needs
 
 -- src/catch_up.rt:143:1
 returns : tie.Need-returns
-unfolding dropped withPagesKept withRangesKept
+unfolding dropped
 returns c = rw (c .keep-ranges .ensures, c .before .keep-pages .ensures, c .before .before .keep-last .ensures)
 
 pub drop-named-spec : {M : Type 1} → statement M

@@ -1,9 +1,8 @@
 use Rattle.catching.proofs.KeepLaws.{last-beyond, last-dropped, last-kept}
 use Rattle.history.specs.Units.{noRange}
-use lib.ListN.{length, length-map}
+use lib.ListN.{length-map}
 use native.Mathlib.Omega.{arith}
-use Prim.Native.Nat.{_≤_}
-use mathlib.Core.Path.{_≡_, sym, _∙_}
+use mathlib.Core.Path.{sym, _∙_}
 use borrow.Author.Needs.{needs}
 use Rattle.catching.proofs.catch_up.keep_last.Statement.{statement}
 use Rattle.catching.proofs.catch_up.keep_last.Tie as tie

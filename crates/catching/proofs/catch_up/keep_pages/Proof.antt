@@ -1,11 +1,11 @@
-use Rattle.catching.proofs.KeepLaws.{changedTo, none-changed, all-changed, withPages, next-page}
-use Rattle.catching.specs.Entries.{withPagesKept}
+use Rattle.catching.proofs.KeepLaws.{changedTo, none-changed, all-changed, next-page}
+use Rattle.catching.specs.Entries.{withPages}
 use Rattle.history.specs.CatchUp.{keepPage}
 use Rattle.history.specs.Units.{noPage}
 use lib.ListN.{length, length-map}
 use native.Mathlib.Omega.{arith}
 use Prim.Native.Nat.{_≤_, _-_}
-use mathlib.Core.Path.{_≡_, sym, ap, _∙_}
+use mathlib.Core.Path.{_≡_, ap, _∙_}
 use borrow.Author.Needs.{needs}
 use Rattle.catching.proofs.catch_up.keep_pages.Statement.{statement}
 use Rattle.catching.proofs.catch_up.keep_pages.Tie as tie
@@ -55,7 +55,6 @@ loop-again c = (omega arith, (c .before .before .before .loop .inv .1 .0, next-p
 
 -- src/catch_up.rt:99:1
 returns : tie.Need-returns Inv-loop μ-loop
-unfolding withPagesKept
 returns c = c .before .loop .inv .1 .1 ∙ ap (withPages (c .before .before .args .t1)) (all-changed _ _ noPage _ (omega arith))
 
 pub keep-pages-spec : {M : Type 1} → statement M

@@ -1,11 +1,11 @@
-use Rattle.catching.proofs.KeepLaws.{changedTo, none-changed, all-changed, withRanges, next-range}
-use Rattle.catching.specs.Entries.{withRangesKept}
+use Rattle.catching.proofs.KeepLaws.{changedTo, none-changed, all-changed, next-range}
+use Rattle.catching.specs.Entries.{withRanges}
 use Rattle.history.specs.CatchUp.{keepRange}
 use Rattle.history.specs.Units.{noRange}
 use lib.ListN.{length, length-map}
 use native.Mathlib.Omega.{arith}
 use Prim.Native.Nat.{_≤_, _-_}
-use mathlib.Core.Path.{_≡_, sym, ap, _∙_}
+use mathlib.Core.Path.{_≡_, ap, _∙_}
 use borrow.Author.Needs.{needs}
 use Rattle.catching.proofs.catch_up.keep_ranges.Statement.{statement}
 use Rattle.catching.proofs.catch_up.keep_ranges.Tie as tie
@@ -55,7 +55,6 @@ loop-again c = (omega arith, (c .before .before .before .loop .inv .1 .0, next-r
 
 -- src/catch_up.rt:113:1
 returns : tie.Need-returns Inv-loop μ-loop
-unfolding withRangesKept
 returns c = c .before .loop .inv .1 .1 ∙ ap (withRanges (c .before .before .args .t1)) (all-changed _ _ noRange _ (omega arith))
 
 pub keep-ranges-spec : {M : Type 1} → statement M
