@@ -19,7 +19,7 @@ emptied-requires c κs = search needs
 
 -- src/catch_up.rt:212:9
 returns : tie.Need-returns
-returns c = c .emptied .ensures ∙ far-behind _ _ _ (c .before .before .removal-count .ensures) (c .before .if1 .taken)
+returns c = c .emptied .ensures ∙ far-behind _ _ _ (c .before .before .removal-count .ensures) (omega arith)
 
 -- src/catch_up.rt:214:9
 drop-unseen-requires : tie.Need-drop-unseen-requires
@@ -27,7 +27,7 @@ drop-unseen-requires c κs = (c .before .before .before .pre .0, (c .before .bef
 
 -- src/catch_up.rt:203:1
 returns-2 : tie.Need-returns-2
-returns-2 c = near-behind _ _ _ (c .before .before .removal-count .ensures) _ (c .before .if1 .left) (c .drop-unseen .ensures)
+returns-2 c = near-behind _ _ _ (c .before .before .removal-count .ensures) _ (omega arith) (c .drop-unseen .ensures)
 
 pub caught-up-spec : {M : Type 1} → statement M
 caught-up-spec =
