@@ -44,7 +44,7 @@ module _ {A : Type 0} (f : A → A) (l : List A) (d : A) where
   unfolding changedTo
   none-changed = is-imap (changedBelow f 0) l l d d refl (λ k h. sym (changed-beyond f 0 k _ (omega arith)))
 
-  pub length-changed : (n : ℕ) → length (changedTo f n l) ≡ length l
+  length-changed : (n : ℕ) → length (changedTo f n l) ≡ length l
   unfolding changedTo
   length-changed n = length-imap (changedBelow f n) 0 l
 
@@ -53,7 +53,7 @@ module _ {A : Type 0} (f : A → A) (l : List A) (d : A) where
   changed-at n k h = getD-imap (changedBelow f n) 0 l k d d h ∙ ap (λ (x : ℕ). changedBelow f n x (getD l k d)) (zero-add k)
 
   -- one entry more
-  pub one-changed : (n : ℕ) → n < length l → set (changedTo f n l) n (f (getD l n d)) ≡ changedTo f (n + 1) l
+  one-changed : (n : ℕ) → n < length l → set (changedTo f n l) n (f (getD l n d)) ≡ changedTo f (n + 1) l
   unfolding changedTo
   one-changed n h =
       let len : length (changedTo f n l) ≡ length l = length-changed n in

@@ -11,6 +11,7 @@ use history::Unit;
 use ranges::page_words::frame_at;
 use runs::Page;
 
+// Whether every field of the page entry is zero.
 fn zero_page(e: PageEntry) -> bool
     ensures { λ r. ⌜ r ≡ zeroPage e ⌝ }
 {
@@ -51,6 +52,7 @@ fn page_entry_ok(k: u32, e: PageEntry) -> bool
     e.rights <= 7
 }
 
+// Whether every field of the range entry is zero.
 fn zero_range(e: RangeEntry) -> bool
     ensures { λ r. ⌜ r ≡ zeroRange e ⌝ }
 {

@@ -5,27 +5,21 @@ use borrow.Author.Needs.{needs}
 use Rattle.catching.proofs.catch_up.caught_up.Statement.{statement}
 use Rattle.catching.proofs.catch_up.caught_up.Tie as tie
 
--- src/catch_up.rt:209:9
 removal-count-requires : tie.Need-removal-count-requires
 removal-count-requires c κs = search needs
 
--- src/catch_up.rt:211:13
 sub-if1 : tie.Need-sub-if1
 sub-if1 c = search needs
 
--- src/catch_up.rt:212:9
 emptied-requires : tie.Need-emptied-requires
 emptied-requires c κs = search needs
 
--- src/catch_up.rt:212:9
 returns : tie.Need-returns
 returns c = c .emptied .ensures ∙ far-behind _ _ _ (c .before .before .removal-count .ensures) (omega arith)
 
--- src/catch_up.rt:214:9
 drop-unseen-requires : tie.Need-drop-unseen-requires
 drop-unseen-requires c κs = (c .before .before .before .pre .0, (c .before .before .before .pre .1 .0, (c .before .removal-count .ensures, omega arith)))
 
--- src/catch_up.rt:203:1
 returns-2 : tie.Need-returns-2
 returns-2 c = near-behind _ _ _ (c .before .before .removal-count .ensures) _ (omega arith) (c .drop-unseen .ensures)
 

@@ -13,31 +13,24 @@ Inv-loop control seen c v₀ m₀ v m = (m ≤ c) × ((seen ≤ m) × (applied c
 abbrev μ-loop : tie.MeasureT-loop
 μ-loop control seen c v₀ m₀ v m = c - m
 
--- src/catch_up.rt:194:5
 loop-holds : tie.Need-loop-holds Inv-loop μ-loop
 loop-holds c = (omega arith, (omega arith, refl))
 
--- src/catch_up.rt:195:9
 add-m : tie.Need-add-m Inv-loop μ-loop
 add-m c = search needs
 
--- src/catch_up.rt:196:13
 removal-at-requires : tie.Need-removal-at-requires Inv-loop μ-loop
 removal-at-requires c κs = search needs
 
--- src/catch_up.rt:197:9
 drop-named-requires : tie.Need-drop-named-requires Inv-loop μ-loop
 drop-named-requires c κs = rw (c .removal-at .ensures) (record-ends _ (c .before .before .loop .m + 1) (c .before .before .before .before .pre .1 .0) (omega arith) (omega arith))
 
--- src/catch_up.rt:194:5
 loop-less : tie.Need-loop-less Inv-loop μ-loop
 loop-less c = search needs
 
--- src/catch_up.rt:194:5
 loop-again : tie.Need-loop-again Inv-loop μ-loop
 loop-again c = (omega arith, (omega arith, c .before .before .before .loop .inv .1 .1 ∙ applied-step _ _ _ _ (c .before .before .loop-test .taken) ∙ rw (c .drop-named .ensures, c .before .removal-at .ensures) refl))
 
--- src/catch_up.rt:185:1
 returns : tie.Need-returns Inv-loop μ-loop
 returns c = applied-end _ _ _ _ (c .loop-test .left) ∙ sym (c .before .loop .inv .1 .1)
 

@@ -3,7 +3,6 @@ use borrow.Author.Needs.{needs}
 use Rattle.catching.proofs.catch_up.emptied.Statement.{statement}
 use Rattle.catching.proofs.catch_up.emptied.Tie as tie
 
--- src/catch_up.rt:157:1
 returns : tie.Need-returns
 unfolding emptied noPage noRange
 returns c = search needs

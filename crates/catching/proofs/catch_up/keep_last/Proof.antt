@@ -7,32 +7,25 @@ use borrow.Author.Needs.{needs}
 use Rattle.catching.proofs.catch_up.keep_last.Statement.{statement}
 use Rattle.catching.proofs.catch_up.keep_last.Tie as tie
 
--- src/catch_up.rt:135:9
 returns : tie.Need-returns
 returns c = let len = rw length-map at (c .before .good .0 .1 .1 .1 .0 .1 .0 .1) in last-beyond _ _ _ (omega arith)
 
--- src/catch_up.rt:137:22
 cast-e : tie.Need-cast-e
 cast-e c = search needs
 
--- src/catch_up.rt:137:13
 mul-e : tie.Need-mul-e
 mul-e c = search needs
 
--- src/catch_up.rt:137:13
 element-copy-out-e : tie.Need-element-copy-out-e
 element-copy-out-e c = search needs
 
--- src/catch_up.rt:138:8
 overlaps-requires : tie.Need-overlaps-requires
 overlaps-requires c κs = search needs
 
--- src/catch_up.rt:139:9
 returns-2 : tie.Need-returns-2
 unfolding noRange
 returns-2 c = last-dropped _ _ _ (sym (c .before .overlaps .ensures) ∙ c .if2 .taken)
 
--- src/catch_up.rt:129:1
 returns-3 : tie.Need-returns-3
 unfolding noRange
 returns-3 c = last-kept _ _ _ (sym (c .before .overlaps .ensures) ∙ c .if2 .left)

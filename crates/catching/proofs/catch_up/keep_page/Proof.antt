@@ -5,16 +5,13 @@ use borrow.Author.Needs.{needs}
 use Rattle.catching.proofs.catch_up.keep_page.Statement.{statement}
 use Rattle.catching.proofs.catch_up.keep_page.Tie as tie
 
--- src/catch_up.rt:69:8
 names-entry-requires : tie.Need-names-entry-requires
 names-entry-requires c κs = search needs
 
--- src/catch_up.rt:70:9
 returns : tie.Need-returns
 unfolding keepPage noPage
 returns c = rw (sym (c .before .names-entry .ensures) ∙ c .if1 .taken, keepPage)
 
--- src/catch_up.rt:65:1
 returns-2 : tie.Need-returns-2
 unfolding keepPage
 returns-2 c = rw (sym (c .before .names-entry .ensures) ∙ c .if1 .left, keepPage)

@@ -5,26 +5,21 @@ use borrow.Author.Needs.{needs}
 use Rattle.catching.proofs.catch_up.names_entry.Statement.{statement}
 use Rattle.catching.proofs.catch_up.names_entry.Tie as tie
 
--- src/catch_up.rt:37:9
 returns : tie.Need-returns
 unfolding namesEntry
 returns c = rw (ne-eqb _ _ (c .if1 .taken))
 
--- src/catch_up.rt:40:9
 returns-2 : tie.Need-returns-2
 unfolding namesEntry names
 returns-2 c = rw (eq-eqb _ _ (c .before .before .before .if1 .left), ne-eqb _ _ (c .if2 .taken))
 
--- src/catch_up.rt:43:9
 returns-3 : tie.Need-returns-3
 unfolding namesEntry names inSpan
 returns-3 c = rw (eq-eqb _ _ (c .before .before .before .before .before .before .if1 .left), eq-eqb _ _ (c .before .before .before .if2 .left), lt-leb _ _ (c .if3 .taken))
 
--- src/catch_up.rt:45:14
 add-result : tie.Need-add-result
 add-result c = search needs
 
--- src/catch_up.rt:32:1
 returns-4 : tie.Need-returns-4
 unfolding namesEntry names inSpan
 returns-4 c = rw (eq-eqb _ _ (c .before .before .before .before .before .before .before .before .if1 .left), eq-eqb _ _ (c .before .before .before .before .before .if2 .left), le-leb _ _ (c .before .before .if3 .left))

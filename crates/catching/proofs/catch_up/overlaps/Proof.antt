@@ -4,26 +4,21 @@ use borrow.Author.Needs.{needs}
 use Rattle.catching.proofs.catch_up.overlaps.Statement.{statement}
 use Rattle.catching.proofs.catch_up.overlaps.Tie as tie
 
--- src/catch_up.rt:54:9
 returns : tie.Need-returns
 unfolding overlaps
 returns c = rw (ne-eqb _ _ (c .if1 .taken))
 
--- src/catch_up.rt:57:9
 returns-2 : tie.Need-returns-2
 unfolding overlaps
 returns-2 c = rw (eq-eqb _ _ (c .before .before .before .if1 .left), ne-eqb _ _ (c .if2 .taken))
 
--- src/catch_up.rt:59:8
 add-if3 : tie.Need-add-if3
 add-if3 c = search needs
 
--- src/catch_up.rt:60:9
 returns-3 : tie.Need-returns-3
 unfolding overlaps
 returns-3 c = rw (eq-eqb _ _ (c .before .before .before .before .before .before .if1 .left), eq-eqb _ _ (c .before .before .before .if2 .left), le-ltb _ _ (c .if3 .taken))
 
--- src/catch_up.rt:49:1
 returns-4 : tie.Need-returns-4
 unfolding overlaps
 returns-4 c = rw (eq-eqb _ _ (c .before .before .before .before .before .before .before .before .if1 .left), eq-eqb _ _ (c .before .before .before .before .before .if2 .left), lt-ltb _ _ (c .before .before .if3 .left))

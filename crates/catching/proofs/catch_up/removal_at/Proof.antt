@@ -3,19 +3,15 @@ use borrow.Author.Needs.{needs}
 use Rattle.catching.proofs.catch_up.removal_at.Statement.{statement}
 use Rattle.catching.proofs.catch_up.removal_at.Tie as tie
 
--- src/catch_up.rt:21:9
 record-space-requires : tie.Need-record-space-requires
 record-space-requires c κs = search needs
 
--- src/catch_up.rt:22:9
 record-first-requires : tie.Need-record-first-requires
 record-first-requires c κs = search needs
 
--- src/catch_up.rt:23:9
 record-count-requires : tie.Need-record-count-requires
 record-count-requires c κs = search needs
 
--- src/catch_up.rt:16:1
 returns : tie.Need-returns
 unfolding removalAt
 returns c = rw (c .record-count .ensures, c .before .record-first .ensures, c .before .before .record-space .ensures)

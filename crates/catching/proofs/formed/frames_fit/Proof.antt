@@ -5,24 +5,19 @@ use borrow.Author.Needs.{needs}
 use Rattle.catching.proofs.formed.frames_fit.Statement.{statement}
 use Rattle.catching.proofs.formed.frames_fit.Tie as tie
 
--- src/formed.rt:81:9
 frame-at-requires : tie.Need-frame-at-requires
 frame-at-requires c κs = search needs
 
--- src/formed.rt:83:9
 returns : tie.Need-returns
 unfolding frameBy
 returns c = first-beyond _ _ _ _ (omega arith) (c .before .before .frame-at .ensures) (c .if1 .taken)
 
--- src/formed.rt:85:12
 sub-result : tie.Need-sub-result
 sub-result c = search needs
 
--- src/formed.rt:85:5
 add-result : tie.Need-add-result
 add-result c = search needs
 
--- src/formed.rt:76:1
 returns-2 : tie.Need-returns-2
 unfolding frameBy
 returns-2 c = last-decides _ _ _ _ (omega arith) (c .before .before .before .frame-at .ensures) (omega arith) (c .before .if1 .left)

@@ -4,29 +4,23 @@ use borrow.Author.Needs.{needs}
 use Rattle.catching.proofs.formed.last_ok.Statement.{statement}
 use Rattle.catching.proofs.formed.last_ok.Tie as tie
 
--- src/formed.rt:140:9
 returns : tie.Need-returns
 unfolding lastOk
 returns c = rw (eq-eqb _ _ (c .if1 .taken))
 
--- src/formed.rt:143:9
 returns-2 : tie.Need-returns-2
 unfolding lastOk
 returns-2 c = rw (ne-eqb _ _ (c .before .if1 .left), le-ltb _ _ (c .if2 .taken))
 
--- src/formed.rt:145:22
 cast-e : tie.Need-cast-e
 cast-e c = search needs
 
--- src/formed.rt:145:13
 mul-e : tie.Need-mul-e
 mul-e c = search needs
 
--- src/formed.rt:145:13
 element-copy-out-e : tie.Need-element-copy-out-e
 element-copy-out-e c = search needs
 
--- src/formed.rt:135:1
 returns-3 : tie.Need-returns-3
 unfolding lastOk noRange
 returns-3 c = rw (ne-eqb _ _ (c .before .before .before .if1 .left), lt-ltb _ _ (c .before .before .if2 .left))

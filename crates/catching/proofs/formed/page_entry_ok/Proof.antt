@@ -7,36 +7,29 @@ use borrow.Author.Needs.{needs}
 use Rattle.catching.proofs.formed.page_entry_ok.Statement.{statement}
 use Rattle.catching.proofs.formed.page_entry_ok.Tie as tie
 
--- src/formed.rt:37:9
 zero-page-requires : tie.Need-zero-page-requires
 zero-page-requires c κs = search needs
 
--- src/formed.rt:37:9
 returns : tie.Need-returns
 unfolding pageEntryOk zeroPage
 returns c = c .zero-page .ensures ∙ rw (ne-eqb _ _ (c .before .if1 .taken), pageEntryOk) refl
 
--- src/formed.rt:40:9
 returns-2 : tie.Need-returns-2
 unfolding pageEntryOk
 returns-2 c = rw (eq-eqb _ _ (c .before .before .if1 .left), pageEntryOk, lt-leb _ _ (c .if2 .taken))
 
--- src/formed.rt:43:9
 returns-3 : tie.Need-returns-3
 unfolding pageEntryOk
 returns-3 c = rw (eq-eqb _ _ (c .before .before .before .before .if1 .left), pageEntryOk, le-leb _ _ (c .before .before .if2 .left), lt-leb _ _ (c .if3 .taken))
 
--- src/formed.rt:46:9
 returns-4 : tie.Need-returns-4
 unfolding pageEntryOk
 returns-4 c = rw (eq-eqb _ _ (c .before .before .before .before .before .before .if1 .left), pageEntryOk, le-leb _ _ (c .before .before .before .before .if2 .left), le-leb _ _ (c .before .before .if3 .left), ne-eqb _ _ (c .if4 .taken))
 
--- src/formed.rt:49:9
 returns-5 : tie.Need-returns-5
 unfolding pageEntryOk
 returns-5 c = rw (eq-eqb _ _ (c .before .before .before .before .before .before .before .before .if1 .left), pageEntryOk, le-leb _ _ (c .before .before .before .before .before .before .if2 .left), le-leb _ _ (c .before .before .before .before .if3 .left), eq-eqb _ _ (c .before .before .if4 .left), le-ltb _ _ (c .if5 .taken))
 
--- src/formed.rt:33:1
 returns-6 : tie.Need-returns-6
 unfolding pageEntryOk allowedRights
 returns-6 c = rw (eq-eqb _ _ (c .before .before .before .before .before .before .before .before .before .if1 .left), pageEntryOk, le-leb _ _ (c .before .before .before .before .before .before .before .if2 .left), le-leb _ _ (c .before .before .before .before .before .if3 .left), eq-eqb _ _ (c .before .before .before .if4 .left), lt-ltb _ _ (c .before .if5 .left))

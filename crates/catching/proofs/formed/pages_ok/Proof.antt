@@ -17,45 +17,35 @@ Inv-loop u k₀ k =
 abbrev μ-loop : tie.MeasureT-loop
 μ-loop u k₀ k = 64 - k
 
--- src/formed.rt:113:5
 loop-holds : tie.Need-loop-holds Inv-loop μ-loop
 loop-holds c = let len = rw length-map at (c .good .0 .1 .1 .0 .1 .0 .1) in (omega arith, (len, rw len at (every-all pageEntryOk noPage (c .args .t1 .pages))))
 
--- src/formed.rt:114:25
 cast-e : tie.Need-cast-e Inv-loop μ-loop
 cast-e c = search needs
 
--- src/formed.rt:114:17
 mul-e : tie.Need-mul-e Inv-loop μ-loop
 mul-e c = search needs
 
--- src/formed.rt:114:17
 element-copy-out-e : tie.Need-element-copy-out-e Inv-loop μ-loop
 element-copy-out-e c = search needs
 
--- src/formed.rt:115:13
 page-entry-ok-requires : tie.Need-page-entry-ok-requires Inv-loop μ-loop
 page-entry-ok-requires c κs = search needs
 
--- src/formed.rt:116:13
 returns : tie.Need-returns Inv-loop μ-loop
 unfolding noPage
 returns c = all-stop _ _ _ (c .before .before .before .loop-test .taken) (sym (c .before .page-entry-ok .ensures) ∙ not-true _ (c .if1 .taken)) ∙ sym (c .before .before .before .before .loop .inv .1 .1)
 
--- src/formed.rt:113:9
 add-k : tie.Need-add-k Inv-loop μ-loop
 add-k c = search needs
 
--- src/formed.rt:113:5
 loop-less : tie.Need-loop-less Inv-loop μ-loop
 loop-less c = search needs
 
--- src/formed.rt:113:5
 loop-again : tie.Need-loop-again Inv-loop μ-loop
 unfolding noPage
 loop-again c = (omega arith, (c .before .before .before .before .loop .inv .1 .0, c .before .before .before .before .loop .inv .1 .1 ∙ all-step _ _ _ (c .before .before .before .loop-test .taken) (sym (c .before .page-entry-ok .ensures) ∙ not-false _ (c .if1 .left))))
 
--- src/formed.rt:110:1
 returns-2 : tie.Need-returns-2 Inv-loop μ-loop
 returns-2 c = all-end _ _ _ (c .loop-test .left) ∙ sym (c .before .loop .inv .1 .1)
 

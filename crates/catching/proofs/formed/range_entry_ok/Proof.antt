@@ -7,40 +7,32 @@ use borrow.Author.Needs.{needs}
 use Rattle.catching.proofs.formed.range_entry_ok.Statement.{statement}
 use Rattle.catching.proofs.formed.range_entry_ok.Tie as tie
 
--- src/formed.rt:93:9
 zero-range-requires : tie.Need-zero-range-requires
 zero-range-requires c κs = search needs
 
--- src/formed.rt:93:9
 returns : tie.Need-returns
 unfolding rangeEntryOk zeroRange
 returns c = λ k. c .zero-range .ensures ∙ rw (ne-eqb _ _ (c .before .if1 .taken), rangeEntryOk) refl
 
--- src/formed.rt:96:9
 returns-2 : tie.Need-returns-2
 unfolding rangeEntryOk
 returns-2 c = λ k. rw (eq-eqb _ _ (c .before .before .if1 .left), rangeEntryOk, lt-leb _ _ (c .if2 .taken))
 
--- src/formed.rt:99:9
 returns-3 : tie.Need-returns-3
 unfolding rangeEntryOk
 returns-3 c = λ k. rw (eq-eqb _ _ (c .before .before .before .before .if1 .left), rangeEntryOk, le-leb _ _ (c .before .before .if2 .left), le-ltb _ _ (c .if3 .taken))
 
--- src/formed.rt:102:9
 returns-4 : tie.Need-returns-4
 unfolding rangeEntryOk
 returns-4 c = λ k. rw (eq-eqb _ _ (c .before .before .before .before .before .before .if1 .left), rangeEntryOk, le-leb _ _ (c .before .before .before .before .if2 .left), lt-ltb _ _ (c .before .before .if3 .left), lt-leb _ _ (c .if4 .taken))
 
--- src/formed.rt:104:9
 frames-fit-requires : tie.Need-frames-fit-requires
 frames-fit-requires c κs = search needs
 
--- src/formed.rt:105:9
 returns-5 : tie.Need-returns-5
 unfolding rangeEntryOk
 returns-5 c = λ k. rw (eq-eqb _ _ (c .before .before .before .before .before .before .before .before .if1 .left), rangeEntryOk, le-leb _ _ (c .before .before .before .before .before .before .if2 .left), lt-ltb _ _ (c .before .before .before .before .if3 .left), le-leb _ _ (c .before .before .if4 .left), sym (c .before .frames-fit .ensures) ∙ not-true _ (c .if5 .taken))
 
--- src/formed.rt:89:1
 returns-6 : tie.Need-returns-6
 unfolding rangeEntryOk allowedRights
 returns-6 c = λ k. rw (eq-eqb _ _ (c .before .before .before .before .before .before .before .before .before .if1 .left), rangeEntryOk, le-leb _ _ (c .before .before .before .before .before .before .before .if2 .left), lt-ltb _ _ (c .before .before .before .before .before .if3 .left), le-leb _ _ (c .before .before .before .if4 .left), sym (c .before .before .frames-fit .ensures) ∙ not-false _ (c .before .if5 .left))

@@ -17,41 +17,32 @@ Inv-loop u k₀ k =
 abbrev μ-loop : tie.MeasureT-loop
 μ-loop u k₀ k = 32 - k
 
--- src/formed.rt:125:5
 loop-holds : tie.Need-loop-holds Inv-loop μ-loop
 loop-holds c = let len = rw length-map at (c .good .0 .1 .1 .1 .0 .1 .0 .1) in (omega arith, (len, rw len at (every-all rangeEntryOk noRange (c .args .t1 .ranges))))
 
--- src/formed.rt:126:17
 mul-e : tie.Need-mul-e Inv-loop μ-loop
 mul-e c = search needs
 
--- src/formed.rt:126:17
 element-copy-out-e : tie.Need-element-copy-out-e Inv-loop μ-loop
 element-copy-out-e c = search needs
 
--- src/formed.rt:127:13
 range-entry-ok-requires : tie.Need-range-entry-ok-requires Inv-loop μ-loop
 range-entry-ok-requires c κs = search needs
 
--- src/formed.rt:128:13
 returns : tie.Need-returns Inv-loop μ-loop
 unfolding noRange
 returns c = all-stop _ _ _ (c .before .before .before .loop-test .taken) (sym (c .before .range-entry-ok .ensures _) ∙ not-true _ (c .if1 .taken)) ∙ sym (c .before .before .before .before .loop .inv .1 .1)
 
--- src/formed.rt:125:9
 add-k : tie.Need-add-k Inv-loop μ-loop
 add-k c = search needs
 
--- src/formed.rt:125:5
 loop-less : tie.Need-loop-less Inv-loop μ-loop
 loop-less c = search needs
 
--- src/formed.rt:125:5
 loop-again : tie.Need-loop-again Inv-loop μ-loop
 unfolding noRange
 loop-again c = (omega arith, (c .before .before .before .before .loop .inv .1 .0, c .before .before .before .before .loop .inv .1 .1 ∙ all-step _ _ _ (c .before .before .before .loop-test .taken) (sym (c .before .range-entry-ok .ensures _) ∙ not-false _ (c .if1 .left))))
 
--- src/formed.rt:122:1
 returns-2 : tie.Need-returns-2 Inv-loop μ-loop
 returns-2 c = all-end _ _ _ (c .loop-test .left) ∙ sym (c .before .loop .inv .1 .1)
 

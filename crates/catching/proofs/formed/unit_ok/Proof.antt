@@ -5,34 +5,27 @@ use borrow.Author.Needs.{needs}
 use Rattle.catching.proofs.formed.unit_ok.Statement.{statement}
 use Rattle.catching.proofs.formed.unit_ok.Tie as tie
 
--- src/formed.rt:153:9
 pages-ok-requires : tie.Need-pages-ok-requires
 pages-ok-requires c κs = search needs
 
--- src/formed.rt:154:9
 returns : tie.Need-returns
 unfolding unitOk
 returns c = rw (sym (c .before .pages-ok .ensures) ∙ not-true _ (c .if1 .taken))
 
--- src/formed.rt:156:9
 ranges-ok-requires : tie.Need-ranges-ok-requires
 ranges-ok-requires c κs = search needs
 
--- src/formed.rt:157:9
 returns-2 : tie.Need-returns-2
 unfolding unitOk
 returns-2 c = rw (sym (c .before .before .before .pages-ok .ensures) ∙ not-false _ (c .before .before .if1 .left), sym (c .before .ranges-ok .ensures) ∙ not-true _ (c .if2 .taken))
 
--- src/formed.rt:159:9
 last-ok-requires : tie.Need-last-ok-requires
 last-ok-requires c κs = search needs
 
--- src/formed.rt:160:9
 returns-3 : tie.Need-returns-3
 unfolding unitOk
 returns-3 c = rw (sym (c .before .before .before .before .before .pages-ok .ensures) ∙ not-false _ (c .before .before .before .before .if1 .left), sym (c .before .before .before .ranges-ok .ensures) ∙ not-false _ (c .before .before .if2 .left), sym (c .before .last-ok .ensures) ∙ not-true _ (c .if3 .taken))
 
--- src/formed.rt:150:1
 returns-4 : tie.Need-returns-4
 unfolding unitOk
 returns-4 c = rw (sym (c .before .before .before .before .before .before .pages-ok .ensures) ∙ not-false _ (c .before .before .before .before .before .if1 .left), sym (c .before .before .before .before .ranges-ok .ensures) ∙ not-false _ (c .before .before .before .if2 .left), sym (c .before .before .last-ok .ensures) ∙ not-false _ (c .before .if3 .left))

@@ -3,27 +3,22 @@ use borrow.Author.Tests.{eq-eqb, ne-eqb}
 use Rattle.catching.proofs.formed.zero_page.Statement.{statement}
 use Rattle.catching.proofs.formed.zero_page.Tie as tie
 
--- src/formed.rt:18:9
 returns : tie.Need-returns
 unfolding zeroPage
 returns c = rw (ne-eqb _ _ (c .if1 .taken))
 
--- src/formed.rt:21:9
 returns-2 : tie.Need-returns-2
 unfolding zeroPage
 returns-2 c = rw (eq-eqb _ _ (c .before .before .if1 .left), ne-eqb _ _ (c .if2 .taken))
 
--- src/formed.rt:24:9
 returns-3 : tie.Need-returns-3
 unfolding zeroPage
 returns-3 c = rw (eq-eqb _ _ (c .before .before .before .before .if1 .left), eq-eqb _ _ (c .before .before .if2 .left), ne-eqb _ _ (c .if3 .taken))
 
--- src/formed.rt:27:9
 returns-4 : tie.Need-returns-4
 unfolding zeroPage
 returns-4 c = rw (eq-eqb _ _ (c .before .before .before .before .before .before .if1 .left), eq-eqb _ _ (c .before .before .before .before .if2 .left), eq-eqb _ _ (c .before .before .if3 .left), ne-eqb _ _ (c .if4 .taken))
 
--- src/formed.rt:14:1
 returns-5 : tie.Need-returns-5
 unfolding zeroPage
 returns-5 c = rw (eq-eqb _ _ (c .before .before .before .before .before .before .before .if1 .left), eq-eqb _ _ (c .before .before .before .before .before .if2 .left), eq-eqb _ _ (c .before .before .before .if3 .left), eq-eqb _ _ (c .before .if4 .left))

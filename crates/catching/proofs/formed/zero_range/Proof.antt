@@ -3,32 +3,26 @@ use borrow.Author.Tests.{eq-eqb, ne-eqb}
 use Rattle.catching.proofs.formed.zero_range.Statement.{statement}
 use Rattle.catching.proofs.formed.zero_range.Tie as tie
 
--- src/formed.rt:58:9
 returns : tie.Need-returns
 unfolding zeroRange
 returns c = rw (ne-eqb _ _ (c .if1 .taken))
 
--- src/formed.rt:61:9
 returns-2 : tie.Need-returns-2
 unfolding zeroRange
 returns-2 c = rw (eq-eqb _ _ (c .before .before .if1 .left), ne-eqb _ _ (c .if2 .taken))
 
--- src/formed.rt:64:9
 returns-3 : tie.Need-returns-3
 unfolding zeroRange
 returns-3 c = rw (eq-eqb _ _ (c .before .before .before .before .if1 .left), eq-eqb _ _ (c .before .before .if2 .left), ne-eqb _ _ (c .if3 .taken))
 
--- src/formed.rt:67:9
 returns-4 : tie.Need-returns-4
 unfolding zeroRange
 returns-4 c = rw (eq-eqb _ _ (c .before .before .before .before .before .before .if1 .left), eq-eqb _ _ (c .before .before .before .before .if2 .left), eq-eqb _ _ (c .before .before .if3 .left), ne-eqb _ _ (c .if4 .taken))
 
--- src/formed.rt:70:9
 returns-5 : tie.Need-returns-5
 unfolding zeroRange
 returns-5 c = rw (eq-eqb _ _ (c .before .before .before .before .before .before .before .before .if1 .left), eq-eqb _ _ (c .before .before .before .before .before .before .if2 .left), eq-eqb _ _ (c .before .before .before .before .if3 .left), eq-eqb _ _ (c .before .before .if4 .left), ne-eqb _ _ (c .if5 .taken))
 
--- src/formed.rt:54:1
 returns-6 : tie.Need-returns-6
 unfolding zeroRange
 returns-6 c = rw (eq-eqb _ _ (c .before .before .before .before .before .before .before .before .before .if1 .left), eq-eqb _ _ (c .before .before .before .before .before .before .before .if2 .left), eq-eqb _ _ (c .before .before .before .before .before .if3 .left), eq-eqb _ _ (c .before .before .before .if4 .left), eq-eqb _ _ (c .before .if5 .left))
