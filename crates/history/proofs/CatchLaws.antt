@@ -2,7 +2,7 @@
 use mathlib.Core.Path.{_≡_, refl, ap, _∙_, sym}
 use mathlib.Core.Bool.{true, false}
 use mathlib.Core.List.{List}
-use Prim.Native.Nat.{ℕ, zero, suc, _+_, _-_, _<_, _≤_}
+use Prim.Native.Nat.{ℕ, zero, suc, _+_, _-_, _<_, _≤_, zero-le}
 use native.Mathlib.Decide.{decLt, ℕ-discrete}
 use native.Mathlib.Omega.{arith}
 use lib.Dec.{eqb, ltb}
@@ -194,6 +194,18 @@ caught-formed c u w =
     by-test (ltb 64 (removals c - u .seen))
     (λ y. rw (y, caughtUp) (emptied-formed (removals c)))
     (λ n. rw (n, caughtUp) (seen-formed c _ (applied-formed c _ _ u w)))
+
+applied-next : (c : List ℕ) (n m : ℕ) (u : TlbUnit) → applied c n m u .next ≡ u .next
+unfolding applied
+applied-next c zero m u = refl
+applied-next c (suc n) m u = applied-next c n (suc m) (dropped (removalAt c m) u) ∙ dropped-next (removalAt c m) u
+
+pub caught-next : (c : List ℕ) (u : TlbUnit) → u .next ≤ 31 → caughtUp c u .next ≤ 31
+unfolding caughtUp emptied seenAll
+caught-next c u h =
+    by-test (ltb 64 (removals c - u .seen))
+    (λ y. rw (y, caughtUp) zero-le)
+    (λ n. rw (n, caughtUp, applied-next c (removals c - u .seen) (u .seen + 1) u) h)
 
 -- a valid entry then was there before, at most 64 records were unseen, and none of them names it
 pub caught-page : (c : List ℕ) (u : TlbUnit) (k : ℕ) → getD (caughtUp c u .pages) k noPage .valid ≡ 1
