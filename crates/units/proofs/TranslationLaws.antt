@@ -25,7 +25,7 @@ use Rattle.layout.specs.Sound.{sound}
 use Rattle.history.specs.declared.Unit.{Unit as TlbUnit}
 use Rattle.history.specs.declared.Finding.{Finding}
 use Rattle.history.specs.CatchUp.{caughtUp}
-use Rattle.history.specs.Translate.{finding, installed, isAccess, notFound, rightLacking, frameFound, wayFound, found, translateRefusals, translateAnswer, translatedUnit}
+use Rattle.history.specs.Translate.{finding, installed, isAccess, notFound, rightLacking, frameFound, wayFound, found, translateRefusals, translateAnswer, translatedUnit, TranslateDone}
 use Rattle.history.specs.Units.{pageEntryOk, rangeEntryOk, lastOk, unitOk}
 use Rattle.units.specs.declared.Translation.{Translation}
 use Rattle.units.specs.Translation.{requestRefusals, findingAnswer, foundBy, decided, translation}
@@ -136,3 +136,8 @@ module _ (T : Tables) (u : TlbUnit) (s p x : ℕ) where
     request-decided z y e =
         let same : translateAnswer T u s p x ≡ findingAnswer p x (foundBy (T .control) (T .pages) u s p) = in-two ∙ none-answers (λ i. outcome i .number) _ (requestRefusals T u s p x) (none z) in
         e ∙ ap (λ (i : Answer). record { answer = i; unit = leaves i (translatedUnit T u s p) u }) (sym same)
+
+-- what is promised of a unit by value is what is promised of a unit that is lent
+pub translation-done : (T : Tables) (u : TlbUnit) (s p x : ℕ) (r : Translation) → r ≡ translation T u s p x → TranslateDone T u s p x (r .answer) (r .unit)
+unfolding translation
+translation-done T u s p x r e = record { answers = ap (λ (g : Translation). g .answer) e; unit = ap (λ (g : Translation). g .unit) e }

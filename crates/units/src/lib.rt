@@ -9,7 +9,7 @@ ghost use Rattle.layout.specs.declared.Answer.the-variants.{Done};
 ghost use Rattle.layout.specs.Tables.{tables, spacePages, spaceRanges};
 ghost use Rattle.layout.specs.Sound.{sound};
 ghost use Rattle.history.specs.Units.{unitOk};
-ghost use Rattle.history.specs.Translate.{installed};
+ghost use Rattle.history.specs.Translate.{installed, TranslateDone};
 ghost use Rattle.units.specs.Translation.{requestRefusals, findingAnswer, decided, translation};
 use finding::found;
 use history::Finding;
@@ -177,4 +177,22 @@ pub fn translated(
         };
     }
     decide(u, control, pages, ranges, space, Page(page), access)
+}
+
+// Translate: the kernel lends its core's unit, which is altered there.
+pub fn translate(
+    u: &mut Unit,
+    control: &[u32],
+    frames: &[u32],
+    pages: &[u32],
+    ranges: &[u32],
+    space: u32,
+    page: u32,
+    access: u32,
+) -> Answer
+    ensures { λ r. ⌜ TranslateDone (tables (now (control .entry)) (now (frames .entry)) (now (pages .entry)) (now (ranges .entry))) (now (u .entry)) space page access r (now (u .exit)) ⌝ }
+{
+    let g = translated(*u, control, frames, pages, ranges, space, page, access);
+    *u = g.unit;
+    g.answer
 }
