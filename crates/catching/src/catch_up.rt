@@ -153,7 +153,7 @@ fn drop_named(u: Unit, d: Removal) -> Unit
 }
 
 // A unit without entries that has seen so many records.
-fn emptied(seen: u32) -> Unit
+pub fn emptied(seen: u32) -> Unit
     ensures { λ r. ⌜ r ≡ emptied seen ⌝ }
 {
     let page = PageEntry {

@@ -25,10 +25,10 @@ use Rattle.layout.specs.Sound.{sound}
 use Rattle.history.specs.declared.Unit.{Unit as TlbUnit}
 use Rattle.history.specs.declared.Finding.{Finding}
 use Rattle.history.specs.CatchUp.{caughtUp}
-use Rattle.history.specs.Translate.{finding, installed, isAccess, notFound, rightLacking, frameFound, wayFound, found, translateRefusals, translateAnswer, translatedUnit, TranslateDone}
+use Rattle.history.specs.Translate.{finding, installed, isAccess, notFound, rightLacking, frameFound, wayFound, found, translateRefusals, translateAnswer, translatedUnit, TranslateDone, SetUpUnitDone}
 use Rattle.history.specs.Units.{pageEntryOk, rangeEntryOk, lastOk, unitOk}
 use Rattle.units.specs.declared.Translation.{Translation}
-use Rattle.units.specs.Translation.{requestRefusals, findingAnswer, foundBy, decided, translation}
+use Rattle.units.specs.Translation.{requestRefusals, findingAnswer, foundBy, decided, translation, freshly}
 
 -- a space's part of the range buffer as it is lent
 pub lent-ranges : (rs : List ℕ) (s : ℕ) → take ((512 * s + 512) - 512 * s) (drop (512 * s) rs) ≡ spaceRanges rs s
@@ -141,3 +141,7 @@ module _ (T : Tables) (u : TlbUnit) (s p x : ℕ) where
 pub translation-done : (T : Tables) (u : TlbUnit) (s p x : ℕ) (r : Translation) → r ≡ translation T u s p x → TranslateDone T u s p x (r .answer) (r .unit)
 unfolding translation
 translation-done T u s p x r e = record { answers = ap (λ (g : Translation). g .answer) e; unit = ap (λ (g : Translation). g .unit) e }
+
+pub fresh-done : (u : TlbUnit) (r : Translation) → r ≡ freshly → SetUpUnitDone u (r .answer) (r .unit)
+unfolding freshly
+fresh-done u r e = record { answers = ap (λ (g : Translation). g .answer) e; unit = ap (λ (g : Translation). g .unit) e }

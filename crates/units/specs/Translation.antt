@@ -10,6 +10,7 @@ use Rattle.layout.specs.Tables.{Tables, spacePages, spaceRanges}
 use Rattle.layout.specs.Calls.{wrongLength, noSuchSpace, notOpen}
 use Rattle.history.specs.declared.Unit.{Unit as TlbUnit}
 use Rattle.history.specs.declared.Finding.{Finding}
+use Rattle.history.specs.Units.{freshUnit}
 use Rattle.history.specs.CatchUp.{caughtUp}
 use Rattle.history.specs.Translate.{finding, frameFound, wayFound, installed, unsoundOrMalformed, seenTooMuch, wrongAccess, wrongPage, notFound, rightLacking, translateAnswer, translatedUnit}
 use Rattle.units.specs.declared.Translation.{Translation}
@@ -37,3 +38,7 @@ decided c ps rs u s p x =
 -- the whole: what `TranslateDone` says of answer and unit
 unfoldable pub translation : Tables → TlbUnit → ℕ → ℕ → ℕ → Translation
 translation T u s p x = record { answer = translateAnswer T u s p x; unit = leaves (translateAnswer T u s p x) (translatedUnit T u s p) u }
+
+-- set up unit: what `SetUpUnitDone` says of answer and unit
+unfoldable pub freshly : Translation
+freshly = record { unit = freshUnit; answer = Done 0 0 }

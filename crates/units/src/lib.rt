@@ -9,8 +9,8 @@ ghost use Rattle.layout.specs.declared.Answer.the-variants.{Done};
 ghost use Rattle.layout.specs.Tables.{tables, spacePages, spaceRanges};
 ghost use Rattle.layout.specs.Sound.{sound};
 ghost use Rattle.history.specs.Units.{unitOk};
-ghost use Rattle.history.specs.Translate.{installed, TranslateDone};
-ghost use Rattle.units.specs.Translation.{requestRefusals, findingAnswer, decided, translation};
+ghost use Rattle.history.specs.Translate.{installed, TranslateDone, SetUpUnitDone};
+ghost use Rattle.units.specs.Translation.{requestRefusals, findingAnswer, decided, translation, freshly};
 use finding::found;
 use history::Finding;
 use history::Unit;
@@ -193,6 +193,28 @@ pub fn translate(
     ensures { λ r. ⌜ TranslateDone (tables (now (control .entry)) (now (frames .entry)) (now (pages .entry)) (now (ranges .entry))) (now (u .entry)) space page access r (now (u .exit)) ⌝ }
 {
     let g = translated(*u, control, frames, pages, ranges, space, page, access);
+    *u = g.unit;
+    g.answer
+}
+
+// A fresh unit, and the answer of set up unit.
+pub fn fresh() -> Translation
+    ensures { λ r. ⌜ r ≡ freshly ⌝ }
+{
+    Translation {
+        unit: catching::emptied(0),
+        answer: Answer::Done {
+            first: 0,
+            second: 0,
+        },
+    }
+}
+
+// Set up unit: whatever the unit was, it is fresh.
+pub fn set_up_unit(u: &mut Unit) -> Answer
+    ensures { λ r. ⌜ SetUpUnitDone (now (u .entry)) r (now (u .exit)) ⌝ }
+{
+    let g = fresh();
     *u = g.unit;
     g.answer
 }
