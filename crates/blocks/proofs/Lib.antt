@@ -3,6 +3,7 @@ pub mod FreeBlockLaws
 pub mod WordLaws
 pub mod ChoiceLaws
 pub mod SettleLaws
+pub mod HeldLaws
 pub mod SearchedLaws
 pub mod TakeLaws
 pub mod AllocateLaws

@@ -16,11 +16,11 @@ use Rattle.words.proofs.TableLaws.{is-tabulate}
 use Rattle.words.proofs.SearchLaws.{allFrom-at, at-allFrom, some-fails}
 use Rattle.words.specs.Writes.{Filled, sameIn}
 use Rattle.words.proofs.PowerLaws.{double}
-use Rattle.blocks.specs.FrameWords.{ownerOf, ownersOf, freeIn, lawful, frameWord, frameWords}
+use Rattle.blocks.specs.FrameWords.{ownerOf, ownersOf, freeIn, heldIn, lawful, frameWord, frameWords}
 use Rattle.blocks.specs.Around.{startOf, around, freeOrder, orderWord}
 use Rattle.blocks.specs.Passes.{Edge, SettledTo, Checked}
 use Rattle.blocks.proofs.AroundLaws.{mod-start, start-mod, finer, coarser, in-block, block-in, start-same, around-at, at-around, around-same, smaller, around-ext, free-around, Maximal, order-here, maximal-order, maximal-same}
-use Rattle.blocks.proofs.WordLaws.{owner-low, owner-high, owners-small, free-same, free-zero, is-held, start-word, other-word, free-frame, held-word, high-word, word-ext, words-ext, owner-back, lawful-yes, lawful-no}
+use Rattle.blocks.proofs.WordLaws.{not-owner, owner-low, owner-high, owners-small, free-same, free-zero, is-held, start-word, other-word, free-frame, held-word, high-word, word-ext, words-ext, owner-back, lawful-yes, lawful-no}
 
 -- edges
 
@@ -238,11 +238,11 @@ module _ (F : ℕ) (free : ℕ → Bool) (f : ℕ) (edge : Edge F free f) where
 
 module _ (F : ℕ) (b : List ℕ) (f : ℕ) (h : f < F) (edge : Edge F (freeIn b) f) where
   pub check-held : (ownerOf (getD b f 0) ≡ 0 → ⊥) → Checked F b f (f + 1)
-  check-held n = record { good = λ z. held-step F b f h edge n; bad = λ z. absurd (omega arith) }
+  check-held n = record { good = λ z. held-step F b f h edge n; others = λ g lo hi. absurd (omega arith); bad = λ z. absurd (omega arith) }
 
   module _ (k : ℕ) (t : freeIn b f ≡ true) (e : freeOrder F (freeIn b) f ≡ some k) where
     pub check-first : (getD b f 0 ≡ 16384 + k → ⊥) → Checked F b f 0
-    check-first n = let x = block-here F b f h edge k t e in record { good = λ z. absurd (z refl); bad = λ z. (f, h, λ q. n (q ∙ x .first)) }
+    check-first n = let x = block-here F b f h edge k t e in record { good = λ z. absurd (z refl); others = λ g lo hi. absurd (omega arith); bad = λ z. (f, h, λ q. n (q ∙ x .first)) }
 
     module _ (z : ℕ) (size : z ≡ 2 ^ k) where
       pub check-others : allFrom (f + z - (f + 1)) (f + 1) (sameIn b 8192) ≡ false → Checked F b f 0
@@ -250,7 +250,7 @@ module _ (F : ℕ) (b : List ℕ) (f : ℕ) (h : f < F) (edge : Edge F (freeIn b
       check-others n =
           let x = block-here F b f h edge k t e in
           let w = level-fits F b f h edge k t e in
-          record { good = λ q. absurd (q refl); bad = λ q. search-wrong x (w .0) }
+          record { good = λ q. absurd (q refl); others = λ g lo hi. absurd (omega arith); bad = λ q. search-wrong x (w .0) }
         where
           search-wrong : BlockHere F b f h edge k → f + 2 ^ k ≤ F → (g : ℕ) × (g < F) × (getD b g 0 ≡ frameWord F (ownersOf b) g → ⊥)
           search-wrong x fits =
@@ -260,7 +260,7 @@ module _ (F : ℕ) (b : List ℕ) (f : ℕ) (h : f < F) (edge : Edge F (freeIn b
               (r .0, omega arith, λ q. true-false (sameIn b 8192 (r .0)) (eq-eqb _ _ (q ∙ x .others (r .0) (omega arith) (omega arith))) (r .3))
 
       pub check-block : getD b f 0 ≡ 16384 + k → allFrom (f + z - (f + 1)) (f + 1) (sameIn b 8192) ≡ true → Checked F b f (f + z)
-      unfolding sameIn
+      unfolding sameIn heldIn
       check-block first others =
           let x = block-here F b f h edge k t e in
           let w = level-fits F b f h edge k t e in
@@ -277,8 +277,12 @@ module _ (F : ℕ) (b : List ℕ) (f : ℕ) (h : f < F) (edge : Edge F (freeIn b
               above = λ g le. refl;
               edge = rw size (edge-block F (freeIn b) k f (x .maximal) (x .starts));
             };
+            others = λ g lo hi. other-frame g (eqb-true _ _ (allFrom-at _ _ (sameIn b 8192) others g (omega arith) (omega arith)));
             bad = λ q. absurd (omega arith);
           }
+        where
+          other-frame : (g : ℕ) → getD b g 0 ≡ 8192 → heldIn b g ≡ false
+          other-frame g w = not-owner (getD b g 0) (omega arith)
 
 -- a wrong word
 pub lawful-wrong : (F : ℕ) (b : List ℕ) → F ≤ 4096 → (g : ℕ) × (g < F) × (getD b g 0 ≡ frameWord F (ownersOf b) g → ⊥) → false ≡ lawful F b

@@ -30,11 +30,14 @@ pub is-owner : (w : ℕ) → isOwner w ≡ true → (1 ≤ w) × (w ≤ 4096)
 unfolding isOwner
 is-owner w t = let p = and-true _ _ t in (leb-true _ _ (p .0), leb-true _ _ (p .1))
 
+pub not-owner : (w : ℕ) → 4096 < w → isOwner w ≡ false
+not-owner w h = by-test (isOwner w) (λ t. absurd (omega (arith, is-owner w t .1))) (λ t. t)
+
 owner-true : (w : ℕ) → isOwner w ≡ true → ownerOf w ≡ w
 unfolding ownerOf
 owner-true w t = rw (t, ownerOf)
 
-owner-false : (w : ℕ) → isOwner w ≡ false → ownerOf w ≡ 0
+pub owner-false : (w : ℕ) → isOwner w ≡ false → ownerOf w ≡ 0
 unfolding ownerOf
 owner-false w t = rw (t, ownerOf)
 
@@ -44,7 +47,7 @@ owner-low w h =
     (λ t. by-dec (ℕ-discrete w 0) (λ z. owner-false w t ∙ sym z) (λ nz. true-false (isOwner w) (owner-is w (omega arith) h) t))
 
 pub owner-high : (w : ℕ) → 4096 < w → ownerOf w ≡ 0
-owner-high w h = by-test (isOwner w) (λ t. absurd (omega (arith, is-owner w t .1))) (owner-false w)
+owner-high w h = owner-false w (not-owner w h)
 
 pub owner-small : (w : ℕ) → ownerOf w ≤ 4096
 owner-small w =

@@ -32,6 +32,10 @@ freeOf owner f = eqb (owner f) 0
 unfoldable pub freeIn : List ℕ → ℕ → Bool
 freeIn b = freeOf (ownersOf b)
 
+-- a frame whose word names an owner
+unfoldable pub heldIn : List ℕ → ℕ → Bool
+heldIn b f = isOwner (getD b f 0)
+
 unfoldable pub firstOrOther : Option ℕ → ℕ
 firstOrOther (some k) = 16384 + k
 firstOrOther none = 8192

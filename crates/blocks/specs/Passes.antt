@@ -11,7 +11,7 @@ use Rattle.words.specs.Searches.{anyFrom, largest}
 use Rattle.blocks.specs.declared.Block.{Block}
 use Rattle.blocks.specs.declared.Bound.{Bound}
 use Rattle.blocks.specs.Blocks.{block, inBlock, freeBlock}
-use Rattle.blocks.specs.FrameWords.{ownersOf, freeIn, frameWord}
+use Rattle.blocks.specs.FrameWords.{ownersOf, freeIn, heldIn, frameWord}
 use Rattle.blocks.specs.Choice.{lowest}
 use Rattle.blocks.specs.Owners.{cleared}
 use Rattle.blocks.specs.Around.{startOf, around}
@@ -31,9 +31,10 @@ pub record SettledTo (F : ℕ) (b : List ℕ) (f r : ℕ) (b′ : List ℕ) : Ty
   pub above : (g : ℕ) → r ≤ g → getD b′ g 0 ≡ getD b g 0
   pub edge : Edge F (freeIn b) r
 
--- the frame after f's block where its words are lawful, or 0 where a word below F is not
+-- the frame after f's block where its words are lawful, or 0 where a word below F is not; in that block no frame but f can be held
 pub record Checked (F : ℕ) (b : List ℕ) (f r : ℕ) : Type 0 where
   pub good : (r ≡ 0 → ⊥) → SettledTo F b f r b
+  pub others : (g : ℕ) → f < g → g < r → heldIn b g ≡ false
   pub bad : r ≡ 0 → (g : ℕ) × (g < F) × (getD b g 0 ≡ frameWord F (ownersOf b) g → ⊥)
 
 -- Choosing: the orders in the sequence in which they are tried, so that the first that has a free block decides

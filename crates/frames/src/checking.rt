@@ -1,14 +1,22 @@
 // The check whether a buffer is lawful: the pass that settles, read as a comparison.
 ghost use mathlib.Core.Path.{_≡_};
+ghost use mathlib.Core.Bool.{true};
 ghost use Prim.Native.Nat.{ℕ, _≤_, _<_};
 ghost use lib.ListN.{length};
-ghost use Rattle.blocks.specs.FrameWords.{freeIn, lawful};
+ghost use Rattle.words.specs.Counts.{count, one-if};
+ghost use Rattle.blocks.specs.FrameWords.{isOwner, freeIn, heldIn, lawful};
 ghost use Rattle.blocks.specs.Passes.{Edge, Checked};
 use crate::buffer::all_same;
 use crate::buffer::owner_of;
 use crate::buffer::size_of;
 use crate::settling::grow;
 use blocks::Frame;
+
+// What the check finds: whether the words are lawful, and how many frames are held.
+pub struct Judged {
+    pub lawful: bool,
+    pub held: u32,
+}
 
 // The frame after the held frame or the free block at f, or frame 0 where its words are not lawful.
 fn lawful_at(frames: &[u32], pool: u32, f: Frame) -> Frame
@@ -36,26 +44,52 @@ fn lawful_at(frames: &[u32], pool: u32, f: Frame) -> Frame
     Frame(end)
 }
 
-// Whether the buffer is lawful for a pool of `pool` frames.
-pub fn lawful(frames: &[u32], pool: u32) -> bool
-    ensures { λ r. ⌜ r ≡ lawful pool (now (frames .entry)) ⌝ }
+fn one_if_held(w: u32) -> u32
+    ensures { λ r. ⌜ r ≡ one-if (isOwner w) ⌝ }
 {
+    let o = owner_of(w);
+    if o == 0 {
+        return 0;
+    }
+    1
+}
+
+// Whether the buffer is lawful for a pool of `pool` frames, and how many frames are held where it is.
+pub fn judge(frames: &[u32], pool: u32) -> Judged
+    ensures { λ r. ⌜ r .lawful ≡ lawful pool (now (frames .entry)) ⌝ }
+    ensures { λ r. ⌜ (r .lawful ≡ true → r .held ≡ count pool (heldIn (now (frames .entry)))) ⌝ }
+{
+    let unlawful = Judged {
+        lawful: false,
+        held: 0,
+    };
     if frames.len() != 4096 {
-        return false;
+        return unlawful;
     }
     if pool < 1 {
-        return false;
+        return unlawful;
     }
     if 4096 < pool {
-        return false;
+        return unlawful;
     }
+    let mut held: u32 = 0;
     let mut f = Frame(0);
     while f.0 < pool {
         let next = lawful_at(frames, pool, f);
         if next.0 == 0 {
-            return false;
+            return unlawful;
         }
+        held += one_if_held(frames[f.0 as usize]);
         f = next;
     }
-    all_same(frames, pool as usize, 4096, 65535)
+    let lawful = all_same(frames, pool as usize, 4096, 65535);
+    Judged { lawful, held }
+}
+
+// Whether the buffer is lawful for a pool of `pool` frames.
+pub fn lawful(frames: &[u32], pool: u32) -> bool
+    ensures { λ r. ⌜ r ≡ lawful pool (now (frames .entry)) ⌝ }
+{
+    let judged = judge(frames, pool);
+    judged.lawful
 }

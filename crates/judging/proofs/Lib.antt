@@ -1,2 +1,3 @@
 pub mod SpanLaws
+pub mod WalkingLaws
 pub mod JudgingLaws

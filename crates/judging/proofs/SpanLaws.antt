@@ -1,22 +1,18 @@
 -- Spans of pages, and the mapped pages in them.
 use mathlib.Core.Path.{_≡_, sym, _∙_}
-use mathlib.Core.Bool.{Bool, true, false, not}
+use mathlib.Core.Bool.{Bool, true, false}
 use mathlib.Core.List.{List}
-use Prim.Native.Nat.{ℕ, _+_, _-_, _*_, _<_, _≤_, zero-le}
+use Prim.Native.Nat.{ℕ, _+_, _-_, _*_, _≤_}
 use native.Mathlib.Decide.{decLe}
 use native.Mathlib.Omega.{arith}
 use lib.Dec.{leb}
-use lib.ListN.{length, getD, take, drop}
+use lib.ListN.{getD, take, drop}
 use borrow.Author.Tests.{leb-true, le-leb, lt-leb}
-use Rattle.words.specs.Searches.{anyFrom}
 use Rattle.words.specs.Tables.{part}
-use Rattle.words.proofs.Cases.{by-test, by-dec, and-true, true-and, true-false}
-use Rattle.words.proofs.SearchLaws.{any-not, any-at}
+use Rattle.words.proofs.Cases.{by-test, by-dec, and-true, true-and}
 use Rattle.runs.specs.PageWords.{mapped}
 use Rattle.layout.specs.Tables.{Tables, spacePages}
-use Rattle.layout.specs.Sound.{noneMapped}
 use Rattle.layout.specs.Calls.{isSpan, mappedAt}
-use Rattle.layout.proofs.SoundLaws.{none-at, at-none}
 use Rattle.judging.specs.Judging.{pageMapped}
 
 -- a span
@@ -50,15 +46,3 @@ page-mapped ws p r e = e
 pub lent-mapped : (T : Tables) (s a e : ℕ) → a ≡ 1024 * s → e ≡ a + 1024 → pageMapped (take (e - a) (drop a (T .pages))) ≡ mappedAt T s
 unfolding pageMapped mappedAt spacePages part
 lent-mapped T s a e ea ee = let n : e - a ≡ 1024 = omega arith in rw (n, ea)
-
--- none of a space's pages
-pub none-any : (ws : List ℕ) → length ws ≡ 1024 → not (anyFrom 1024 0 (pageMapped ws)) ≡ noneMapped ws
-unfolding pageMapped
-none-any ws l =
-    by-test (anyFrom 1024 0 (pageMapped ws))
-    (λ t. let k = any-at 1024 0 (pageMapped ws) t in
-    let hi : k .0 < 1024 = k .2 in
-    by-test (noneMapped ws)
-    (λ n. true-false (pageMapped ws (k .0)) (k .3) (none-at ws n (k .0) (omega arith)))
-    (λ n. rw (t, n)))
-    (λ f. rw f (sym (at-none ws (λ p h. any-not 1024 0 (pageMapped ws) f p zero-le (omega arith)))))

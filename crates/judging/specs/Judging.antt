@@ -1,24 +1,30 @@
 -- What the steps of the judgement decide.
-use mathlib.Core.Bool.{Bool, _&&_, _||_}
+use mathlib.Core.Bool.{Bool, _&&_, _||_, not}
 use mathlib.Core.List.{List}
-use Prim.Native.Nat.{ℕ}
+use Prim.Native.Nat.{ℕ, _*_}
 use lib.ListN.{getD}
+use Rattle.words.specs.Searches.{every}
 use Rattle.runs.specs.PageWords.{mapped}
 use Rattle.runs.specs.Walk.{lawfulRanges}
 use Rattle.control.specs.Control.{isOpen}
+use Rattle.pointing.specs.Pointing.{pageOk}
 use Rattle.layout.specs.Tables.{Tables, rightLengths, spacePages, spaceRanges}
-use Rattle.layout.specs.Sound.{noneMapped, sound}
+use Rattle.layout.specs.Sound.{sound}
 
 -- page p is mapped, by a space's words
 unfoldable pub pageMapped : List ℕ → ℕ → Bool
 pageMapped ws p = mapped (getD ws p 0)
 
--- the words ws and range words xs of space s, under an open mask
-unfoldable pub partSound : ℕ → ℕ → List ℕ → List ℕ → Bool
-partSound mask s ws xs = lawfulRanges ws xs && (isOpen mask s || noneMapped ws)
+-- page word w at place i of the page buffer: mapped in an open space only, and then the word of its frame names place i
+unfoldable pub pageFits : Bool → List ℕ → ℕ → ℕ → ℕ → Bool
+pageFits opened fs F i w = (opened || not (mapped w)) && pageOk fs F i w
 
-unfoldable pub spaceSound : ℕ → List ℕ → List ℕ → ℕ → Bool
-spaceSound mask ps rs s = partSound mask s (spacePages ps s) (spaceRanges rs s)
+-- the page words ws, from place a of the page buffer on, and range words xs of a space that is open or not
+unfoldable pub partSound : Bool → List ℕ → ℕ → ℕ → List ℕ → List ℕ → Bool
+partSound opened fs F a ws xs = lawfulRanges ws xs && every (pageFits opened fs F) a ws
+
+unfoldable pub spaceSound : ℕ → List ℕ → ℕ → List ℕ → List ℕ → ℕ → Bool
+spaceSound mask fs F ps rs s = partSound (isOpen mask s) fs F (1024 * s) (spacePages ps s) (spaceRanges rs s)
 
 -- buffers of any lengths: "four buffers with exact lengths", and sound
 unfoldable pub soundBuffers : Tables → Bool

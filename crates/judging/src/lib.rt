@@ -1,6 +1,7 @@
 // What a call on the tables tests before it answers: lengths, soundness, spans and mapped pages.
 mod soundness;
 mod spans;
+mod walking;
 
 pub use crate::soundness::check;
 pub use crate::soundness::right_lengths;

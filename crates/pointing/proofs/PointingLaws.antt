@@ -1,6 +1,6 @@
 -- Frame and page words that point at each other pair the mapped pages with the held frames.
 use mathlib.Core.Path.{_≡_, refl, ap, _∙_, sym}
-use mathlib.Core.Bool.{Bool, true, false, not}
+use mathlib.Core.Bool.{Bool, true, false, not, _&&_}
 use mathlib.Core.List.{List}
 use Prim.Native.Nat.{ℕ, _+_, _-_, _≤_, _<_}
 use native.Mathlib.Nat.{zero-add}
@@ -11,11 +11,11 @@ use lib.ListN.{length, getD}
 use borrow.Author.Tests.{lt-ltb, le-ltb, ltb-true, eqb-true, eq-eqb, ne-eqb}
 use Rattle.blocks.proofs.Published.{test-owner, owner-test, owner-low, owner-high}
 use Rattle.words.specs.Counts.{count}
-use Rattle.words.specs.Searches.{every, allFrom}
+use Rattle.words.specs.Searches.{every}
 use Rattle.words.proofs.Cases.{by-test, by-dec, true-false, and-true, true-and}
-use Rattle.words.proofs.SearchLaws.{every-at, at-every, every-all}
-use Rattle.words.proofs.CountLaws.{count-ext, count-not, count-pairs}
-use Rattle.blocks.specs.FrameWords.{isOwner, ownerOf, ownersOf, freeOf, freeIn}
+use Rattle.words.proofs.SearchLaws.{every-at, at-every}
+use Rattle.words.proofs.CountLaws.{count-ext, count-all, count-not, count-pairs}
+use Rattle.blocks.specs.FrameWords.{isOwner, ownerOf, ownersOf, freeOf, freeIn, heldIn}
 use Rattle.runs.specs.PageWords.{mapped, frameIn}
 use Rattle.pointing.specs.Pointing.{holds, pageOk, frameOk, pointed}
 
@@ -46,41 +46,20 @@ module _ (fs : List ℕ) (F i w : ℕ) (m : mapped w ≡ true) where
   unfolding pageOk
   page-says t = let a = and-true _ _ (rw (m, pageOk) at t) in (ltb-true _ _ (a .0), eqb-true _ _ (a .1))
 
-pub frame-over : (ps : List ℕ) (F f v : ℕ) → F ≤ f → true ≡ frameOk ps F f v
+frame-over : (ps : List ℕ) (F f v : ℕ) → F ≤ f → true ≡ frameOk ps F f v
 unfolding frameOk
 frame-over ps F f v h = rw (le-ltb f F h, frameOk)
 
-pub frame-free : (ps : List ℕ) (F f v : ℕ) → (1 ≤ v → v ≤ 4096 → ⊥) → true ≡ frameOk ps F f v
+frame-free : (ps : List ℕ) (F f v : ℕ) → (1 ≤ v → v ≤ 4096 → ⊥) → true ≡ frameOk ps F f v
 unfolding frameOk
 frame-free ps F f v no-one =
     by-test (isOwner v)
     (λ o. let b = owner-test v o in absurd (no-one (b .0) (b .1)))
     (λ o. by-test (ltb f F) (λ t. rw (t, o, frameOk)) (λ t. rw (t, frameOk)))
 
-pub frame-held : (ps : List ℕ) (F f v : ℕ) → f < F → isOwner v ≡ true → holds (getD ps (v - 1) 0) f ≡ frameOk ps F f v
+frame-held : (ps : List ℕ) (F f v : ℕ) → f < F → isOwner v ≡ true → holds (getD ps (v - 1) 0) f ≡ frameOk ps F f v
 unfolding frameOk
 frame-held ps F f v h o = rw (lt-ltb f F h, o, frameOk)
-
--- the tests in the order of the code
-
-pub not-holds : (w f : ℕ) → mapped w ≡ false → false ≡ holds w f
-unfolding holds
-not-holds w f m = rw m
-
-pub same-frame : (w f : ℕ) → mapped w ≡ true → eqb (frameIn w) f ≡ holds w f
-unfolding holds
-same-frame w f m = rw m
-
-pub not-pointed : (fs ps : List ℕ) (F : ℕ) → every (pageOk fs F) 0 ps ≡ false → false ≡ pointed fs ps F
-unfolding pointed
-not-pointed fs ps F e = rw e
-
-pub both-ways : (fs ps : List ℕ) (F : ℕ) → every (pageOk fs F) 0 ps ≡ true → every (frameOk ps F) 0 fs ≡ pointed fs ps F
-unfolding pointed
-both-ways fs ps F e = rw e
-
-pub whole : (f : ℕ → ℕ → Bool) (l : List ℕ) → length l ≡ 4096 → every f 0 l ≡ allFrom 4096 0 (λ k. f k (getD l k 0))
-whole f l e = rw e at (every-all f 0 l)
 
 owner-word : (v i : ℕ) → ownerOf v ≡ i + 1 → v ≡ i + 1
 owner-word v i e =
@@ -89,20 +68,25 @@ owner-word v i e =
     (λ gt. absurd (omega (arith, e, owner-high v (omega arith))))
 
 -- a frame is free or has an owner
-free-not : (fs : List ℕ) (f : ℕ) → freeIn fs f ≡ not (isOwner (getD fs f 0))
-unfolding freeIn freeOf ownersOf ownerOf
+free-not : (fs : List ℕ) (f : ℕ) → freeIn fs f ≡ not (heldIn fs f)
+unfolding heldIn freeIn freeOf ownersOf ownerOf
 free-not fs f =
     by-test (isOwner (getD fs f 0))
     (λ o. let b = owner-test (getD fs f 0) o .0 in rw (o, ownerOf) (ne-eqb (getD fs f 0) 0 (λ z. omega arith)))
     (λ o. rw (o, ownerOf))
 
+-- a mapped page word has a frame below F, whose word names its place
+page-each : (fs ps : List ℕ) (F : ℕ) → length ps ≡ 4096 → every (pageOk fs F) 0 ps ≡ true → (i : ℕ) → i < 4096 → mapped (getD ps i 0) ≡ true
+    → (frameIn (getD ps i 0) < F) × (getD fs (frameIn (getD ps i 0)) 0 ≡ i + 1)
+page-each fs ps F pages t i h m = page-says fs F i (getD ps i 0) m (rw (zero-add i) at (every-at (pageOk fs F) 0 ps 0 t i (omega arith)))
+
 module _ (fs ps : List ℕ) (F : ℕ) (t : pointed fs ps F ≡ true) (frames : length fs ≡ 4096) (pages : length ps ≡ 4096) where
-  -- a mapped page word has a frame below F, whose word names its place
-  pub page-at : (i : ℕ) → i < 4096 → mapped (getD ps i 0) ≡ true → (frameIn (getD ps i 0) < F) × (getD fs (frameIn (getD ps i 0)) 0 ≡ i + 1)
+  pub pages-pass : every (pageOk fs F) 0 ps ≡ true
   unfolding pointed
-  page-at i h m =
-      let a = and-true (every (pageOk fs F) 0 ps) (every (frameOk ps F) 0 fs) t in
-      page-says fs F i (getD ps i 0) m (rw (zero-add i) at (every-at (pageOk fs F) 0 ps 0 (a .0) i (omega arith)))
+  pages-pass = and-true (every (pageOk fs F) 0 ps) (every (frameOk ps F) 0 fs) t .0
+
+  pub page-at : (i : ℕ) → i < 4096 → mapped (getD ps i 0) ≡ true → (frameIn (getD ps i 0) < F) × (getD fs (frameIn (getD ps i 0)) 0 ≡ i + 1)
+  page-at = page-each fs ps F pages pages-pass
 
   -- an owner below F names a place that is mapped with its frame
   pub frame-at : (f : ℕ) → f < F → f < 4096 → isOwner (getD fs f 0) ≡ true → (mapped (getD ps (getD fs f 0 - 1) 0) ≡ true) × (frameIn (getD ps (getD fs f 0 - 1) 0) ≡ f)
@@ -138,9 +122,10 @@ module _ (fs ps : List ℕ) (F : ℕ) (t : pointed fs ps F ≡ true) (frames : l
         at-holds (getD ps i 0) f (rw p at (r .0)) (rw p at (r .1))
 
     -- as many pages are mapped as frames are held
-    pub mapped-held : count 4096 (λ i. mapped (getD ps i 0)) ≡ count F (λ f. isOwner (getD fs f 0))
+    pub mapped-held : count 4096 (λ i. mapped (getD ps i 0)) ≡ count F (heldIn fs)
+    unfolding heldIn
     mapped-held =
-        count-pairs 4096 F (λ i. mapped (getD ps i 0)) (λ f. isOwner (getD fs f 0)) (λ i. frameIn (getD ps i 0)) (λ f. getD fs f 0 - 1)
+        count-pairs 4096 F (λ i. mapped (getD ps i 0)) (heldIn fs) (λ i. frameIn (getD ps i 0)) (λ f. getD fs f 0 - 1)
         (record {
           there = λ i h m.
               let s = page-at i h m in
@@ -155,8 +140,8 @@ module _ (fs ps : List ℕ) (F : ℕ) (t : pointed fs ps F ≡ true) (frames : l
     -- free frames counted singly and mapped pages are all frames of the pool
     pub balance : count F (freeIn fs) + count 4096 (λ i. mapped (getD ps i 0)) ≡ F
     balance =
-        let a = count-not F (λ f. isOwner (getD fs f 0)) in
-        let b : count F (freeIn fs) ≡ count F (λ f. not (isOwner (getD fs f 0))) = count-ext F (freeIn fs) _ (λ f h. free-not fs f) in
+        let a = count-not F (heldIn fs) in
+        let b : count F (freeIn fs) ≡ count F (λ f. not (heldIn fs f)) = count-ext F (freeIn fs) _ (λ f h. free-not fs f) in
         omega (arith, a, b, mapped-held)
 
 -- words point at each other as soon as a place is mapped with a frame exactly where it is the owner of that frame
@@ -190,3 +175,46 @@ module _ (fs ps : List ℕ) (F : ℕ) (frames : length fs ≡ 4096) (pages : len
   at-pointed =
       true-and _ _ (at-every (pageOk fs F) 0 ps 0 (λ k h. rw (zero-add k) (page-passes k (omega arith))))
       (at-every (frameOk ps F) 0 fs 0 (λ k h. rw (zero-add k) (frame-passes k)))
+
+-- Counting in place of the way back: the frames that mapped pages name are held ones, each named by one page. So where as many pages are mapped as frames are held, each held frame is named.
+module _ (fs ps : List ℕ) (F : ℕ) (frames : length fs ≡ 4096) (pages : length ps ≡ 4096) (small : F ≤ 4096) where
+  -- the word of frame f names a page that is mapped with it
+  named : ℕ → Bool
+  named f = isOwner (getD fs f 0) && holds (getD ps (getD fs f 0 - 1) 0) f
+
+  module _ (t : every (pageOk fs F) 0 ps ≡ true) where
+    named-mapped : count 4096 (λ i. mapped (getD ps i 0)) ≡ count F named
+    unfolding named
+    named-mapped =
+        count-pairs 4096 F (λ i. mapped (getD ps i 0)) named (λ i. frameIn (getD ps i 0)) (λ f. getD fs f 0 - 1)
+        (record {
+          there = λ i h m.
+              let s = page-each fs ps F pages t i h m in
+              let n = s .1 in
+              let back : getD fs (frameIn (getD ps i 0)) 0 - 1 ≡ i = omega arith in
+              let owns : isOwner (getD fs (frameIn (getD ps i 0)) 0) ≡ true = rw n (test-owner (i + 1) (omega arith) (omega arith)) in
+              let has : holds (getD ps (getD fs (frameIn (getD ps i 0)) 0 - 1) 0) (frameIn (getD ps i 0)) ≡ true = rw back (at-holds (getD ps i 0) (frameIn (getD ps i 0)) m refl) in
+              (s .0, true-and _ _ owns has, back);
+          back = λ f h o.
+              let a = and-true _ _ o in
+              let b = owner-test (getD fs f 0) (a .0) in
+              let s = holds-at _ _ (a .1) in
+              (omega (arith, b .0, b .1), s .0, s .1);
+        })
+
+    all-named : count 4096 (λ i. mapped (getD ps i 0)) ≡ count F (heldIn fs) → (f : ℕ) → f < F → isOwner (getD fs f 0) ≡ true → named f ≡ true
+    unfolding named heldIn
+    all-named e = count-all F named (heldIn fs) (λ f h o. and-true _ _ o .0) (sym named-mapped ∙ e)
+
+    frames-pass : count 4096 (λ i. mapped (getD ps i 0)) ≡ count F (heldIn fs) → (f : ℕ) → frameOk ps F f (getD fs f 0) ≡ true
+    unfolding named
+    frames-pass e f =
+        by-dec (decLt f F)
+        (λ lt. by-test (isOwner (getD fs f 0))
+        (λ o. sym (frame-held ps F f (getD fs f 0) lt o) ∙ and-true (isOwner (getD fs f 0)) _ (all-named e f lt o) .1)
+        (λ o. sym (frame-free ps F f (getD fs f 0) (λ lo hi. true-false (isOwner (getD fs f 0)) (test-owner (getD fs f 0) lo hi) o))))
+        (λ ge. sym (frame-over ps F f (getD fs f 0) (omega arith)))
+
+  pub by-count : every (pageOk fs F) 0 ps ≡ true → count 4096 (λ i. mapped (getD ps i 0)) ≡ count F (heldIn fs) → pointed fs ps F ≡ true
+  unfolding pointed
+  by-count t e = true-and _ _ t (at-every (frameOk ps F) 0 fs 0 (λ k h. rw (zero-add k) (frames-pass t e k)))

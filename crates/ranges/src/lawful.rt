@@ -1,17 +1,16 @@
-// The check of range bits and range words.
+// The check of range bits and range words: what a walk over a space's pages tests at each page, and at its end.
 ghost use mathlib.Core.Path.{_≡_};
+ghost use mathlib.Core.Bool.{false};
 ghost use Prim.Native.Nat.{_+_, _≤_};
 ghost use lib.ListN.{length};
 ghost use Rattle.words.specs.Tables.{part};
-ghost use Rattle.runs.specs.Walk.{entryOf, ended, lawfulRanges};
+ghost use Rattle.runs.specs.Walk.{entryOf, ended};
 ghost use Rattle.runs.specs.Steps.{Decides, EndFits, WordFits, zeroFrom};
 use crate::page_words::frame_in;
 use crate::page_words::mapped;
 use crate::page_words::offset;
 use crate::page_words::range_bit;
 use crate::page_words::rights_in;
-use crate::walk::goes_on;
-use crate::walk::joined;
 use runs::Page;
 
 // Whether the entry at place `at` is that of the run of n pages that ends before page b, at word v.
@@ -70,8 +69,21 @@ fn word_fits(on: bool, v: u32, w: u32) -> bool
     true
 }
 
+// Both at page b, whose word is w.
+pub fn step_fits(ranges: &[u32], on: bool, at: usize, b: Page, n: u32, v: u32, w: u32) -> bool
+    requires { ⌜ length (now ranges) ≡ 512 ⌝ }
+    requires { ⌜ at + length (ended on (b .0) n v) ≤ 512 ⌝ }
+    requires { ⌜ (n ≤ b .0) × (b .0 ≤ 1024) ⌝ }
+    ensures { λ r. ⌜ Decides r (EndFits (now (ranges .entry)) on at (b .0) n v × WordFits on v w) ⌝ }
+{
+    if !end_fits(ranges, on, at, b, n, v) {
+        return false;
+    }
+    word_fits(on, v, w)
+}
+
 // The place of the next entry.
-fn next_place(on: bool, at: usize, b: Page, n: u32, v: u32) -> usize
+pub fn next_place(on: bool, at: usize, b: Page, n: u32, v: u32) -> usize
     requires { ⌜ at + length (ended on (b .0) n v) ≤ 512 ⌝ }
     ensures { λ r. ⌜ r ≡ at + length (ended on (b .0) n v) ⌝ }
 {
@@ -99,33 +111,16 @@ fn zeros_from(ranges: &[u32], at: usize) -> bool
     true
 }
 
-// Whether a space's range bits and range words are those of its frames and rights.
-pub fn ranges_lawful(part: &[u32], ranges: &[u32]) -> bool
-    requires { ⌜ length (now part) ≡ 1024 ⌝ }
+// Whether the last run fits at its end, page 1,024, and the range words after its entry are zero.
+pub fn rest_fits(ranges: &[u32], at: usize, n: u32, v: u32) -> bool
     requires { ⌜ length (now ranges) ≡ 512 ⌝ }
-    ensures { λ r. ⌜ r ≡ lawfulRanges (now (part .entry)) (now (ranges .entry)) ⌝ }
+    requires { ⌜ at + length (ended false 1024 n v) ≤ 512 ⌝ }
+    requires { ⌜ n ≤ 1024 ⌝ }
+    ensures { λ r. ⌜ Decides r (EndFits (now (ranges .entry)) false at 1024 n v × (now (ranges .entry) ≡ zeroFrom (now (ranges .entry)) (at + length (ended false 1024 n v)))) ⌝ }
 {
-    let mut n: u32 = 0;
-    let mut v: u32 = 0;
-    let mut at: usize = 0;
-    let mut i: u32 = 0;
-    while i < 1024 {
-        let w = part[i as usize];
-        let on = joined(v, w);
-        if !end_fits(ranges, on, at, Page(i), n, v) {
-            return false;
-        }
-        if !word_fits(on, v, w) {
-            return false;
-        }
-        at = next_place(on, at, Page(i), n, v);
-        n = goes_on(n, v, w);
-        v = w;
-        i += 1;
-    }
     if !end_fits(ranges, false, at, Page(1024), n, v) {
         return false;
     }
-    at = next_place(false, at, Page(1024), n, v);
-    zeros_from(ranges, at)
+    let rest = next_place(false, at, Page(1024), n, v);
+    zeros_from(ranges, rest)
 }

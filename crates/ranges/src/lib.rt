@@ -3,4 +3,4 @@
 pub mod lawful;
 pub mod page_words;
 pub mod renew;
-mod walk;
+pub mod walk;

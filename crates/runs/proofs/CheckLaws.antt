@@ -58,6 +58,9 @@ says-no r e n = record { yes = λ t. true-false r t e; no = λ f p. n p }
 pub says-yes : {P : Type 0} (r : Bool) → r ≡ true → P → Decides r P
 says-yes r e p = record { yes = λ t. p; no = λ f q. true-false r e f }
 
+pub says-also : {P Q : Type 0} (r : Bool) → P → Decides r Q → Decides r (P × Q)
+says-also r p d = record { yes = λ t. (p, d .yes t); no = λ f q. d .no f (q .1) }
+
 -- the four words of an entry, one by one
 four : (rs : List ℕ) (at : ℕ) → at + 4 ≤ length rs → part at 4 rs ≡ getD rs at 0 ∷ getD rs (at + 1) 0 ∷ getD rs (at + 2) 0 ∷ getD rs (at + 3) 0 ∷ []
 unfolding part
@@ -276,21 +279,21 @@ module _ (ws rs : List ℕ) (i n v at : ℕ) (s : Checking ws rs i n v at) where
             of-bit (leb 8 (whole ws (suc i))) w (j .next) (rw e (word-at i h)) ∙ sym (of-bit (leb 8 (whole ws (suc i))) v (j .this) y);
       }
 
-  -- the end: what is left to look at are the zeros
-  pub check-end : (at′ : ℕ) (r : Bool) → i ≡ 1024 → EndFits rs false at i n v → at′ ≡ at + length (ended false i n v) → Decides r (rs ≡ zeroFrom rs at′) → r ≡ lawfulRanges ws rs
-  check-end at′ r h f p d =
+  -- the end: what is left to look at are the last run and the zeros
+  pub check-end : (r : Bool) → i ≡ 1024 → Decides r (EndFits rs false at i n v × (rs ≡ zeroFrom rs (at + length (ended false i n v)))) → r ≡ lawfulRanges ws rs
+  check-end r h d =
       let z = s .walked .size in
-      let words : zeroFrom rs at′ ≡ rangeWords ws = walk-end _ _ _ _ _ _ (s .walked) rs at′ h p (s .walked .table) (rw p (taken-more false (end-room h) f)) in
       decided ws rs r (record {
-        yes = λ t. (
-          ext-getD 0 ws (withBits ws) (sym (length-withBits ws)) (λ q lt. all-right (stops-end _ _ _ _ _ _ (s .walked) h) f q (omega arith) ∙ sym (withBits-at ws q lt)),
-          d .yes t ∙ words,
-        );
-        no = λ t q. d .no t (q .1 ∙ sym words);
+        yes = λ t.
+            let f = d .yes t .0 in (
+              ext-getD 0 ws (withBits ws) (sym (length-withBits ws)) (λ q lt. all-right (stops-end _ _ _ _ _ _ (s .walked) h) f q (omega arith) ∙ sym (withBits-at ws q lt)),
+              d .yes t .1 ∙ words f,
+            );
+        no = λ t q. let f = last-holds (q .0) (q .1) h in d .no t (f, q .1 ∙ sym (words f));
       })
-
-  pub end-place : (at′ : ℕ) → i ≡ 1024 → at′ ≡ at + length (ended false i n v) → at′ ≤ length rs
-  end-place at′ h p = omega (arith, s .walked .table, end-room h)
+    where
+      words : EndFits rs false at i n v → zeroFrom rs (at + length (ended false i n v)) ≡ rangeWords ws
+      words f = walk-end _ _ _ _ _ _ (s .walked) rs _ h refl (s .walked .table) (taken-more false (end-room h) f)
 
 -- a test that failed
 pub refuted : (ws rs : List ℕ) → (ws ≡ withBits ws → rs ≡ rangeWords ws → ⊥) → false ≡ lawfulRanges ws rs

@@ -36,6 +36,24 @@ count-mono (suc n) p q h =
     (λ t. rw (t, h n (omega arith) t) (omega arith))
     (λ t. rw t (omega arith))
 
+-- each that passes p passes q too, and as many pass the one as the other: so each that passes q passes p
+pub count-all : (n : ℕ) (p q : ℕ → Bool) → ((i : ℕ) → i < n → p i ≡ true → q i ≡ true) → count n p ≡ count n q → (i : ℕ) → i < n → q i ≡ true → p i ≡ true
+unfolding count one-if
+count-all zero p q sub e i h t = absurd (not-suc-le-zero h)
+count-all (suc n) p q sub e i h t =
+    let le : count n p ≤ count n q = count-mono n p q (λ j hj. sub j (omega arith)) in
+    by-test (p n)
+    (λ pn.
+    let qn : q n ≡ true = sub n (omega arith) pn in
+    let fewer : count n p ≡ count n q = omega (arith, ap one-if pn, ap one-if qn) in
+    by-dec (ℕ-discrete i n) (λ same. rw same pn) (λ ne. count-all n p q (λ j hj. sub j (omega arith)) fewer i (omega arith) t))
+    (λ pn.
+    by-dec (ℕ-discrete i n)
+    (λ same. let qn : q n ≡ true = rw same at t in absurd (omega (arith, ap one-if pn, ap one-if qn)))
+    (λ ne.
+    let fewer : count n p ≡ count n q = omega (arith, ap one-if pn) in
+    count-all n p q (λ j hj. sub j (omega arith)) fewer i (omega arith) t))
+
 pub one-if-not : (b : Bool) → one-if b + one-if (not b) ≡ 1
 unfolding one-if
 one-if-not true = refl

@@ -1,15 +1,15 @@
 -- What the tests and searches say, and what a loop has to show at its end: that its result is the one defined.
 use mathlib.Core.Path.{_≡_, refl, ap, _∙_, sym}
-use mathlib.Core.Bool.{Bool, true, false, _&&_}
+use mathlib.Core.Bool.{Bool, true, false}
 use mathlib.Core.List.{List, [], _∷_}
 use mathlib.Core.Option.{Option, none, some}
 use Prim.Native.Nat.{ℕ, zero, suc, _+_, _-_, _<_, _≤_}
-use native.Mathlib.Nat.{add-zero, zero-add, le-of-suc-le-suc, not-suc-le-zero}
+use native.Mathlib.Nat.{add-zero, le-of-suc-le-suc, not-suc-le-zero}
 use native.Mathlib.Decide.{decLt, ℕ-discrete}
 use native.Mathlib.Omega.{arith}
 use lib.ListN.{length, getD}
 use Rattle.words.specs.Searches.{allFrom, anyFrom, every, firstFrom, largest, is-some}
-use Rattle.words.proofs.Cases.{by-test, by-dec, true-false, and-true, true-and}
+use Rattle.words.proofs.Cases.{by-test, by-dec, true-false}
 
 pub allFrom-at : (n i : ℕ) (p : ℕ → Bool) → allFrom n i p ≡ true → (k : ℕ) → i ≤ k → k < i + n → p k ≡ true
 unfolding allFrom
@@ -56,17 +56,6 @@ all-end p g e h = let s : e - g ≡ 0 = omega arith in rw s
 -- n numbers from g on are those from g to e
 pub all-start : (p : ℕ → Bool) (g n e : ℕ) → e ≡ g + n → allFrom n g p ≡ allFrom (e - g) g p
 all-start p g n e h = let s : e - g ≡ n = omega arith in rw s
-
--- two tests at once
-pub all-and : (n i : ℕ) (p q : ℕ → Bool) → allFrom n i (λ k. p k && q k) ≡ (allFrom n i p && allFrom n i q)
-all-and n i p q =
-    by-test (allFrom n i p && allFrom n i q)
-    (λ t. let a = and-true _ _ t in
-    at-allFrom n i _ (λ k lo hi. true-and _ _ (allFrom-at n i p (a .0) k lo hi) (allFrom-at n i q (a .1) k lo hi)) ∙ sym t)
-    (λ f. by-test (allFrom n i (λ k. p k && q k))
-    (λ t. true-false (allFrom n i p && allFrom n i q)
-    (true-and _ _ (at-allFrom n i p (λ k lo hi. and-true (p k) (q k) (allFrom-at n i _ t k lo hi) .0)) (at-allFrom n i q (λ k lo hi. and-true (p k) (q k) (allFrom-at n i _ t k lo hi) .1))) f)
-    (λ e. e ∙ sym f))
 
 -- one passes
 
@@ -146,14 +135,14 @@ at-every f d (x ∷ xs) i h =
     rw (first, every) (at-every f d xs (suc i) (λ k hk. let s : i + suc k ≡ suc i + k = omega arith in rw s at (h (suc k) (omega arith))))
 
 -- the test on a list is the test on its places
-pub every-all : {A : Type 0} (f : ℕ → A → Bool) (d : A) (l : List A) → every f 0 l ≡ allFrom (length l) 0 (λ k. f k (getD l k d))
-every-all f d l =
-    by-test (allFrom (length l) 0 (λ k. f k (getD l k d)))
-    (λ t. at-every f d l 0 (λ k h. rw (zero-add k) (allFrom-at (length l) 0 _ t k (omega arith) (omega arith))) ∙ sym t)
-    (λ n. by-test (every f 0 l)
+pub every-all : {A : Type 0} (f : ℕ → A → Bool) (d : A) (l : List A) (a : ℕ) → every f a l ≡ allFrom (length l) 0 (λ k. f (a + k) (getD l k d))
+every-all f d l a =
+    by-test (allFrom (length l) 0 (λ k. f (a + k) (getD l k d)))
+    (λ t. at-every f d l a (λ k h. allFrom-at (length l) 0 _ t k (omega arith) (omega arith)) ∙ sym t)
+    (λ n. by-test (every f a l)
     (λ t. let g = some-fails (length l) 0 _ n in
     let h : g .0 < 0 + length l = g .2 in
-    true-false (f (g .0) (getD l (g .0) d)) (rw (zero-add (g .0)) at (every-at f d l 0 t (g .0) (omega arith))) (g .3))
+    true-false (f (a + g .0) (getD l (g .0) d)) (every-at f d l a t (g .0) (omega arith)) (g .3))
     (λ e. e ∙ sym n))
 
 pub data First (n i : ℕ) (p : ℕ → Bool) : Option ℕ → Type 0 where

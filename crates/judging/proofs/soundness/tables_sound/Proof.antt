@@ -2,48 +2,51 @@ use borrow.Author.Needs.{needs}
 use Rattle.judging.proofs.soundness.tables_sound.Statement.{statement}
 use Rattle.judging.proofs.soundness.tables_sound.Tie as tie
 use mathlib.Core.Path.{sym, _∙_}
+use Prim.Native.Nat.{_-_}
 use borrow.Author.Tests.{not-true, not-false}
-use Rattle.judging.proofs.JudgingLaws.{pool-small, bad-control, bad-frames, bad-spaces, by-pointing}
+use Rattle.judging.proofs.JudgingLaws.{bad-control, bad-frames, bad-spaces, by-counting}
 
--- src/soundness.rt:70:9
+-- src/soundness.rt:34:9
 control-lawful-requires : tie.Need-control-lawful-requires
 control-lawful-requires c κs = search needs
 
--- src/soundness.rt:71:9
+-- src/soundness.rt:35:9
 returns : tie.Need-returns
 returns c = bad-control _ _ _ _ (sym (c .before .control-lawful .ensures) ∙ not-true _ (c .if1 .taken))
 
--- src/soundness.rt:73:9
+-- src/soundness.rt:37:9
 pool-size-requires : tie.Need-pool-size-requires
 pool-size-requires c κs = search needs
 
--- src/soundness.rt:74:9
-lawful-requires : tie.Need-lawful-requires
-lawful-requires c κs = search needs
+-- src/soundness.rt:38:9
+judge-requires : tie.Need-judge-requires
+judge-requires c κs = search needs
 
--- src/soundness.rt:75:9
+-- src/soundness.rt:40:9
 returns-2 : tie.Need-returns-2
-returns-2 c = bad-frames _ _ _ _ _ (c .before .before .pool-size .ensures) (sym (c .before .before .before .before .control-lawful .ensures) ∙ not-false _ (c .before .before .before .if1 .left)) (sym (c .before .lawful .ensures) ∙ not-true _ (c .if2 .taken))
+returns-2 c = bad-frames _ _ _ _ _ (c .before .before .before .pool-size .ensures) (sym (c .before .before .before .before .before .control-lawful .ensures) ∙ not-false _ (c .before .before .before .before .if1 .left)) (sym (c .before .before .judge .ensures .0) ∙ not-true _ (c .if2 .taken))
 
--- src/soundness.rt:77:9
+-- src/soundness.rt:42:9
 open-mask-requires : tie.Need-open-mask-requires
 open-mask-requires c κs = search needs
 
--- src/soundness.rt:78:9
-spaces-sound-requires : tie.Need-spaces-sound-requires
-spaces-sound-requires c κs = search needs
+-- src/soundness.rt:43:9
+walk-spaces-requires : tie.Need-walk-spaces-requires
+walk-spaces-requires c κs = search needs
 
--- src/soundness.rt:79:9
+-- src/soundness.rt:45:9
 returns-3 : tie.Need-returns-3
-returns-3 c = bad-spaces _ _ _ _ _ (c .before .before .before .before .before .pool-size .ensures) (sym (c .before .before .before .before .before .before .before .control-lawful .ensures) ∙ not-false _ (c .before .before .before .before .before .before .if1 .left)) (sym (c .before .before .before .before .lawful .ensures) ∙ not-false _ (c .before .before .before .if2 .left)) _ (c .before .before .open-mask .ensures) (sym (c .before .spaces-sound .ensures) ∙ not-true _ (c .if3 .taken))
+returns-3 c =
+    let p = c .before .before .before .before .before .before .before .before .before .before .before .before .before .before .pre in
+    bad-spaces _ _ _ _ _ (c .before .before .before .before .before .before .before .pool-size .ensures) (sym (c .before .before .before .before .before .before .before .before .before .control-lawful .ensures) ∙ not-false _ (c .before .before .before .before .before .before .before .before .if1 .left)) (record { control = p .0; frames = p .1 .0; pages = p .1 .1 .0; ranges = p .1 .1 .1 }) (sym (c .before .before .before .before .before .before .judge .ensures .0) ∙ not-false _ (c .before .before .before .before .if2 .left)) _ (c .before .before .before .open-mask .ensures) (sym (c .before .before .walk-spaces .ensures .0) ∙ not-true _ (c .if3 .taken))
 
--- src/soundness.rt:81:5
-pointing-requires : tie.Need-pointing-requires
-pointing-requires c κs = let low = pool-small _ _ (c .before .before .before .before .before .pool-size .ensures) (sym (c .before .before .before .before .before .before .before .control-lawful .ensures) ∙ not-false _ (c .before .before .before .before .before .before .if1 .left)) in search needs
-
--- src/soundness.rt:63:1
+-- src/soundness.rt:27:1
 returns-4 : tie.Need-returns-4
-returns-4 c = by-pointing _ _ _ _ _ (c .before .before .before .before .before .before .pool-size .ensures) (sym (c .before .before .before .before .before .before .before .before .control-lawful .ensures) ∙ not-false _ (c .before .before .before .before .before .before .before .if1 .left)) (sym (c .before .before .before .before .before .lawful .ensures) ∙ not-false _ (c .before .before .before .before .if2 .left)) _ (c .before .before .before .open-mask .ensures) (sym (c .before .before .spaces-sound .ensures) ∙ not-false _ (c .before .if3 .left)) _ (c .pointing .ensures)
+returns-4 c =
+    let p = c .before .before .before .before .before .before .before .before .before .before .before .before .before .before .before .before .pre in
+    let good = not-false _ (c .before .before .before .before .before .before .if2 .left) in
+    let walked = not-false _ (c .before .before .if3 .left) in
+    by-counting _ _ _ _ _ (c .before .before .before .before .before .before .before .before .before .pool-size .ensures) (sym (c .before .before .before .before .before .before .before .before .before .before .before .control-lawful .ensures) ∙ not-false _ (c .before .before .before .before .before .before .before .before .before .before .if1 .left)) (record { control = p .0; frames = p .1 .0; pages = p .1 .1 .0; ranges = p .1 .1 .1 }) (sym (c .before .before .before .before .before .before .before .before .judge .ensures .0) ∙ good) _ (c .before .before .before .before .before .open-mask .ensures) (sym (c .before .before .before .before .walk-spaces .ensures .0) ∙ walked) _ _ (c .before .before .before .before .walk-spaces .ensures .1 walked) (c .before .before .before .before .before .before .before .before .judge .ensures .1 good)
 
 pub tables-sound-spec : {M : Type 1} → statement M
 tables-sound-spec =
@@ -52,10 +55,9 @@ tables-sound-spec =
     control-lawful-requires
     returns
     pool-size-requires
-    lawful-requires
+    judge-requires
     returns-2
     open-mask-requires
-    spaces-sound-requires
+    walk-spaces-requires
     returns-3
-    pointing-requires
     returns-4)

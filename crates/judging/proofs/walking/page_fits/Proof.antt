@@ -1,0 +1,25 @@
+use borrow.Author.Needs.{needs}
+use Rattle.judging.proofs.walking.page_fits.Statement.{statement}
+use Rattle.judging.proofs.walking.page_fits.Tie as tie
+use mathlib.Core.Path.{_∙_}
+use Prim.Native.Nat.{_-_}
+use Rattle.judging.proofs.WalkingLaws.{fits-open, fits-closed}
+
+-- src/walking.rt:41:9
+page-ok-requires : tie.Need-page-ok-requires
+page-ok-requires c κs = search needs
+
+-- src/walking.rt:41:9
+returns : tie.Need-returns
+returns c = c .page-ok .ensures ∙ fits-open _ _ _ _ _ (c .before .if1 .taken)
+
+-- src/walking.rt:43:6
+mapped-requires : tie.Need-mapped-requires
+mapped-requires c κs = search needs
+
+-- src/walking.rt:35:1
+returns-2 : tie.Need-returns-2
+returns-2 c = fits-closed _ _ _ _ _ (c .before .if1 .left) _ (c .mapped .ensures)
+
+pub page-fits-spec : {M : Type 1} → statement M
+page-fits-spec = tie.close (tie.spec page-ok-requires returns mapped-requires returns-2)

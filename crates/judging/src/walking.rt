@@ -1,0 +1,122 @@
+// One walk over the page words of each space: their runs and range words, the frames that they name, and how many pages are mapped.
+ghost use mathlib.Core.Path.{_≡_};
+ghost use mathlib.Core.Bool.{true, false};
+ghost use Prim.Native.Nat.{_+_, _≤_, _<_};
+ghost use lib.ListN.{length};
+ghost use Rattle.words.specs.Counts.{count, one-if};
+ghost use Rattle.words.specs.Searches.{allFrom};
+ghost use Rattle.runs.specs.PageWords.{mapped};
+ghost use Rattle.judging.specs.Judging.{pageMapped, pageFits, partSound, spaceSound};
+use pointing::page_ok;
+use ranges::lawful::next_place;
+use ranges::lawful::rest_fits;
+use ranges::lawful::step_fits;
+use ranges::page_words::mapped;
+use ranges::walk::goes_on;
+use ranges::walk::joined;
+use runs::Page;
+
+// What a walk finds: whether the words are sound, and how many pages are mapped.
+pub struct Walked {
+    pub sound: bool,
+    pub mapped: u32,
+}
+
+fn unsound() -> Walked
+    ensures { λ r. ⌜ r .sound ≡ false ⌝ }
+{
+    Walked {
+        sound: false,
+        mapped: 0,
+    }
+}
+
+fn one_if_mapped(w: u32) -> u32
+    ensures { λ r. ⌜ r ≡ one-if (mapped w) ⌝ }
+{
+    if mapped(w) {
+        return 1;
+    }
+    0
+}
+
+// Whether page word w at place i of the page buffer is unmapped, or the space is open and the word of its frame names place i.
+fn page_fits(frames: &[u32], pool: u32, opened: bool, i: u32, w: u32) -> bool
+    requires { ⌜ length (now frames) ≡ 4096 ⌝ }
+    requires { ⌜ i < 4096 ⌝ }
+    ensures { λ r. ⌜ r ≡ pageFits opened (now (frames .entry)) pool i w ⌝ }
+{
+    if opened {
+        return page_ok(frames, pool, i, w);
+    }
+    !mapped(w)
+}
+
+// The walk over one space, whose page words start at place `first` of the page buffer.
+fn walk_space(
+    frames: &[u32],
+    pool: u32,
+    opened: bool,
+    first: u32,
+    part: &[u32],
+    ranges: &[u32],
+) -> Walked
+    requires { ⌜ length (now frames) ≡ 4096 ⌝ }
+    requires { ⌜ first + 1024 ≤ 4096 ⌝ }
+    requires { ⌜ length (now part) ≡ 1024 ⌝ }
+    requires { ⌜ length (now ranges) ≡ 512 ⌝ }
+    ensures { λ r. ⌜ r .sound ≡ partSound opened (now (frames .entry)) pool first (now (part .entry)) (now (ranges .entry)) ⌝ }
+    ensures { λ r. ⌜ (r .sound ≡ true → r .mapped ≡ count 1024 (pageMapped (now (part .entry)))) ⌝ }
+{
+    let mut n: u32 = 0;
+    let mut v: u32 = 0;
+    let mut at: usize = 0;
+    let mut m: u32 = 0;
+    let mut i: u32 = 0;
+    while i < 1024 {
+        let w = part[i as usize];
+        let on = joined(v, w);
+        if !step_fits(ranges, on, at, Page(i), n, v, w) {
+            return unsound();
+        }
+        if !page_fits(frames, pool, opened, first + i, w) {
+            return unsound();
+        }
+        at = next_place(on, at, Page(i), n, v);
+        n = goes_on(n, v, w);
+        m += one_if_mapped(w);
+        v = w;
+        i += 1;
+    }
+    let sound = rest_fits(ranges, at, n, v);
+    Walked { sound, mapped: m }
+}
+
+// The walk over the four spaces.
+pub fn walk_spaces(mask: u32, frames: &[u32], pool: u32, pages: &[u32], ranges: &[u32]) -> Walked
+    requires { ⌜ length (now frames) ≡ 4096 ⌝ }
+    requires { ⌜ length (now pages) ≡ 4096 ⌝ }
+    requires { ⌜ length (now ranges) ≡ 2048 ⌝ }
+    ensures { λ r. ⌜ r .sound ≡ allFrom 4 0 (spaceSound mask (now (frames .entry)) pool (now (pages .entry)) (now (ranges .entry))) ⌝ }
+    ensures { λ r. ⌜ (r .sound ≡ true → r .mapped ≡ count 4096 (pageMapped (now (pages .entry)))) ⌝ }
+{
+    let mut m: u32 = 0;
+    let mut s: u32 = 0;
+    while s < 4 {
+        let opened = control::is_open(mask, s);
+        let a = 1024 * (s as usize);
+        let e = a + 1024;
+        let b = 512 * (s as usize);
+        let f = b + 512;
+        let here = walk_space(frames, pool, opened, 1024 * s, &pages[a..e], &ranges[b..f]);
+        if !here.sound {
+            return unsound();
+        }
+        m += here.mapped;
+        s += 1;
+    }
+    Walked {
+        sound: true,
+        mapped: m,
+    }
+}
