@@ -1,5 +1,5 @@
 -- The steps of the judgement, put together.
-use mathlib.Core.Path.{_≡_, sym, _∙_}
+use mathlib.Core.Path.{_≡_, refl, sym, _∙_}
 use mathlib.Core.Bool.{Bool, true, false}
 use mathlib.Core.List.{List}
 use Prim.Native.Nat.{ℕ, _+_, _*_, _/_, _%_, _≤_, zero-le}
@@ -44,7 +44,10 @@ pub lengths-last : (c fs ps rs : List ℕ) → length c ≡ 195 → length fs �
 unfolding rightLengths
 lengths-last c fs ps rs x y z = rw (eq-eqb _ _ x, eq-eqb _ _ y, eq-eqb _ _ z)
 
--- every page of the four spaces fits where the tables are sound, and they are where also as many pages are mapped as frames are held
+pool-small : (c : List ℕ) (F : ℕ) → F ≡ poolSize c → lawfulControl c ≡ true → F ≤ 4096
+pool-small c F e t = let p = size-test _ (lawful-says c t .pool) in omega (arith, p .1)
+
+-- in sound tables every page of the four spaces fits; where every page fits, and as many pages are mapped as frames are held, they are sound
 
 module _ (T : Tables) (l : Lengths T) where
   abbrev space : ℕ → Bool
@@ -82,17 +85,13 @@ module _ (T : Tables) (l : Lengths T) where
   unfolding spaceSound pageMapped
   spaces-sound c u t e =
       let at : (s : ℕ) → s ≤ 3 → space s ≡ true = λ s h. allFrom-at 4 0 space t s zero-le (omega arith) in
-      let small : poolSize (T .control) ≤ 4096 = size-test _ (lawful-says (T .control) c .pool) .1 in
       parts-sound T (record {
         control = c;
         frames = u;
         spaces = λ s h. part-says _ _ _ _ _ _ (at s h) .0;
         closed = λ s h. at-closed T s (λ f. at-none (spacePages (T .pages) s) (λ p hp. fits-says _ _ _ _ _ (part-says _ _ _ _ _ _ (at s h) .1 p hp) .0 f));
-        points = by-count (T .frames) (T .pages) (poolSize (T .control)) (l .frames) (l .pages) small (pages-point t) e;
+        points = by-count (T .frames) (T .pages) (poolSize (T .control)) (l .frames) (l .pages) (pool-small (T .control) _ refl c) (pages-point t) e;
       })
-
-pub pool-small : (c : List ℕ) (F : ℕ) → F ≡ poolSize c → lawfulControl c ≡ true → F ≤ 4096
-pool-small c F e t = let p = size-test _ (lawful-says c t .pool) in omega (arith, p .1)
 
 module _ (c fs ps rs : List ℕ) where
   pub bad-control : lawfulControl c ≡ false → false ≡ sound (tables c fs ps rs)

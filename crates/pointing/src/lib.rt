@@ -1,5 +1,5 @@
-// Whether frame and page words point at each other: what a walk over the page words tests at each.
-// The way back needs no walk over the frame words: it holds where as many pages are mapped as frames are held (law `by-count`).
+// Frame and page words that point at each other: the test of one page word.
+// The way back, from held frames to their pages, has no test: it holds where as many pages are mapped as frames are held (law `by-count`).
 ghost use mathlib.Core.Path.{_≡_};
 ghost use Prim.Native.Nat.{_<_};
 ghost use lib.ListN.{length};

@@ -1,4 +1,4 @@
-// The check of range bits and range words: what a walk over a space's pages tests at each page, and at its end.
+// The check of range bits and range words: what the walk over a space's pages tests at each page and at its end.
 ghost use mathlib.Core.Path.{_≡_};
 ghost use mathlib.Core.Bool.{false};
 ghost use Prim.Native.Nat.{_+_, _≤_};
@@ -69,7 +69,7 @@ fn word_fits(on: bool, v: u32, w: u32) -> bool
     true
 }
 
-// Both at page b, whose word is w.
+// Whether the run before page b fits if it ends there, and word w of page b fits after word v.
 pub fn step_fits(ranges: &[u32], on: bool, at: usize, b: Page, n: u32, v: u32, w: u32) -> bool
     requires { ⌜ length (now ranges) ≡ 512 ⌝ }
     requires { ⌜ at + length (ended on (b .0) n v) ≤ 512 ⌝ }

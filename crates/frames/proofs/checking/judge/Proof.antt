@@ -19,65 +19,50 @@ Inv-loop frames pool unlawful held₀ f₀ held f = Sofar pool frames frames (f 
 abbrev μ-loop : tie.MeasureT-loop
 μ-loop frames pool unlawful held₀ f₀ held f = pool - f .0
 
--- src/checking.rt:63:9
 returns : tie.Need-returns Inv-loop μ-loop
 returns c = (lawful-no _ _ (λ l. c .if1 .taken (l .len)), λ t. true-false false t refl)
 
--- src/checking.rt:66:9
 returns-2 : tie.Need-returns-2 Inv-loop μ-loop
 returns-2 c = (lawful-no _ _ (λ l. let p = l .pos in omega arith), λ t. true-false false t refl)
 
--- src/checking.rt:69:9
 returns-3 : tie.Need-returns-3 Inv-loop μ-loop
 returns-3 c = (lawful-no _ _ (λ l. let p = l .small in omega arith), λ t. true-false false t refl)
 
--- src/checking.rt:73:5
 loop-holds : tie.Need-loop-holds Inv-loop μ-loop
 loop-holds c = (at-start _ _, held-start _)
 
--- src/checking.rt:74:13
 lawful-at-requires : tie.Need-lawful-at-requires Inv-loop μ-loop
 lawful-at-requires c κs = (c .before .before .before .before .before .if1 .left, (omega arith, (c .if4 .taken, c .before .before .loop .inv .0 .edge)))
 
--- src/checking.rt:76:13
 returns-4 : tie.Need-returns-4 Inv-loop μ-loop
 returns-4 c = (lawful-wrong _ _ (omega arith) (c .before .before .lawful-at .ensures .bad (c .if5 .taken)), λ t. true-false false t refl)
 
--- src/checking.rt:78:36
 cast-one-if-held : tie.Need-cast-one-if-held Inv-loop μ-loop
 cast-one-if-held c = search needs
 
--- src/checking.rt:78:29
 mul-one-if-held : tie.Need-mul-one-if-held Inv-loop μ-loop
 mul-one-if-held c = search needs
 
--- src/checking.rt:78:29
 shared-slice-read-one-if-held : tie.Need-shared-slice-read-one-if-held Inv-loop μ-loop
 shared-slice-read-one-if-held c = search needs
 
--- src/checking.rt:78:17
 one-if-held-requires : tie.Need-one-if-held-requires Inv-loop μ-loop
 one-if-held-requires c κs = search needs
 
--- src/checking.rt:78:9
 add-held : tie.Need-add-held Inv-loop μ-loop
 add-held c = omega (arith, c .before .before .before .before .before .before .before .before .loop .inv .1, c .before .before .before .before .before .before .if4 .taken, count-le (c .before .before .before .before .before .before .before .before .loop .f .0) (heldIn (c .before .before .before .before .before .before .before .before .before .before .before .before .before .args .frames .now)), counts-small _ _ (c .one-if-held .ensures))
 
--- src/checking.rt:73:5
 loop-less : tie.Need-loop-less Inv-loop μ-loop
 loop-less c = let s = c .before .before .before .before .before .lawful-at .ensures .good (c .before .before .before .if5 .left) in omega (arith, s .on, s .inside)
 
--- src/checking.rt:73:5
 loop-again : tie.Need-loop-again Inv-loop μ-loop
 loop-again c =
     let s = c .before .before .before .before .before .lawful-at .ensures .good (c .before .before .before .if5 .left) in
     (one-turn _ _ _ _ _ _ (c .before .before .before .before .before .before .before .before .loop .inv .0) refl s, held-turn _ _ _ _ _ _ (s .on) (c .before .before .before .before .before .lawful-at .ensures) (c .before .before .before .before .before .before .before .before .loop .inv .1) (c .one-if-held .ensures))
 
--- src/checking.rt:81:9
 all-same-requires : tie.Need-all-same-requires Inv-loop μ-loop
 all-same-requires c κs = (omega arith, omega arith)
 
--- src/checking.rt:58:1
 returns-5 : tie.Need-returns-5 Inv-loop μ-loop
 returns-5 c = (
   c .all-same .ensures ∙ lawful-tail _ _ _ (c .before .before .before .before .before .before .if1 .left) (omega arith) (omega arith) (c .before .if4 .left) (c .before .before .before .loop .inv .0),

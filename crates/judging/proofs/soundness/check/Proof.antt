@@ -6,19 +6,15 @@ use borrow.Author.Tests.{not-true, not-false}
 use Rattle.layout.proofs.SoundLaws.{lengths-at}
 use Rattle.judging.proofs.JudgingLaws.{bad-lengths, by-tables}
 
--- src/soundness.rt:88:9
 right-lengths-requires : tie.Need-right-lengths-requires
 right-lengths-requires c κs = search needs
 
--- src/soundness.rt:89:9
 returns : tie.Need-returns
 returns c = bad-lengths _ (sym (c .before .right-lengths .ensures) ∙ not-true _ (c .if1 .taken))
 
--- src/soundness.rt:91:5
 tables-sound-requires : tie.Need-tables-sound-requires
 tables-sound-requires c κs = let l = lengths-at _ (sym (c .before .right-lengths .ensures) ∙ not-false _ (c .if1 .left)) in (l .control, (l .frames, (l .pages, l .ranges)))
 
--- src/soundness.rt:85:1
 returns-2 : tie.Need-returns-2
 returns-2 c = by-tables _ (sym (c .before .before .right-lengths .ensures) ∙ not-false _ (c .before .if1 .left)) _ (c .tables-sound .ensures)
 

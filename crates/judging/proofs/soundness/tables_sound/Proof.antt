@@ -6,41 +6,32 @@ use Prim.Native.Nat.{_-_}
 use borrow.Author.Tests.{not-true, not-false}
 use Rattle.judging.proofs.JudgingLaws.{bad-control, bad-frames, bad-spaces, by-counting}
 
--- src/soundness.rt:34:9
 control-lawful-requires : tie.Need-control-lawful-requires
 control-lawful-requires c κs = search needs
 
--- src/soundness.rt:35:9
 returns : tie.Need-returns
 returns c = bad-control _ _ _ _ (sym (c .before .control-lawful .ensures) ∙ not-true _ (c .if1 .taken))
 
--- src/soundness.rt:37:9
 pool-size-requires : tie.Need-pool-size-requires
 pool-size-requires c κs = search needs
 
--- src/soundness.rt:38:9
 judge-requires : tie.Need-judge-requires
 judge-requires c κs = search needs
 
--- src/soundness.rt:40:9
 returns-2 : tie.Need-returns-2
 returns-2 c = bad-frames _ _ _ _ _ (c .before .before .before .pool-size .ensures) (sym (c .before .before .before .before .before .control-lawful .ensures) ∙ not-false _ (c .before .before .before .before .if1 .left)) (sym (c .before .before .judge .ensures .0) ∙ not-true _ (c .if2 .taken))
 
--- src/soundness.rt:42:9
 open-mask-requires : tie.Need-open-mask-requires
 open-mask-requires c κs = search needs
 
--- src/soundness.rt:43:9
 walk-spaces-requires : tie.Need-walk-spaces-requires
 walk-spaces-requires c κs = search needs
 
--- src/soundness.rt:45:9
 returns-3 : tie.Need-returns-3
 returns-3 c =
     let p = c .before .before .before .before .before .before .before .before .before .before .before .before .before .before .pre in
     bad-spaces _ _ _ _ _ (c .before .before .before .before .before .before .before .pool-size .ensures) (sym (c .before .before .before .before .before .before .before .before .before .control-lawful .ensures) ∙ not-false _ (c .before .before .before .before .before .before .before .before .if1 .left)) (record { control = p .0; frames = p .1 .0; pages = p .1 .1 .0; ranges = p .1 .1 .1 }) (sym (c .before .before .before .before .before .before .judge .ensures .0) ∙ not-false _ (c .before .before .before .before .if2 .left)) _ (c .before .before .before .open-mask .ensures) (sym (c .before .before .walk-spaces .ensures .0) ∙ not-true _ (c .if3 .taken))
 
--- src/soundness.rt:27:1
 returns-4 : tie.Need-returns-4
 returns-4 c =
     let p = c .before .before .before .before .before .before .before .before .before .before .before .before .before .before .before .before .pre in

@@ -4,15 +4,12 @@ use Rattle.judging.proofs.walking.one_if_mapped.Tie as tie
 use Prim.Native.Nat.{_-_}
 use Rattle.judging.proofs.WalkingLaws.{one-mapped, one-unmapped}
 
--- src/walking.rt:28:8
 mapped-requires : tie.Need-mapped-requires
 mapped-requires c κs = search needs
 
--- src/walking.rt:29:9
 returns : tie.Need-returns
 returns c = one-mapped _ _ (c .before .mapped .ensures) (c .if1 .taken)
 
--- src/walking.rt:25:1
 returns-2 : tie.Need-returns-2
 returns-2 c = one-unmapped _ _ (c .before .mapped .ensures) (c .if1 .left)
 

@@ -5,19 +5,15 @@ use mathlib.Core.Path.{_∙_}
 use Prim.Native.Nat.{_-_}
 use Rattle.judging.proofs.WalkingLaws.{fits-open, fits-closed}
 
--- src/walking.rt:41:9
 page-ok-requires : tie.Need-page-ok-requires
 page-ok-requires c κs = search needs
 
--- src/walking.rt:41:9
 returns : tie.Need-returns
 returns c = c .page-ok .ensures ∙ fits-open _ _ _ _ _ (c .before .if1 .taken)
 
--- src/walking.rt:43:6
 mapped-requires : tie.Need-mapped-requires
 mapped-requires c κs = search needs
 
--- src/walking.rt:35:1
 returns-2 : tie.Need-returns-2
 returns-2 c = fits-closed _ _ _ _ _ (c .before .if1 .left) _ (c .mapped .ensures)
 

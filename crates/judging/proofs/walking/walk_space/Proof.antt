@@ -24,34 +24,27 @@ Inv-loop frames pool opened first part ranges n₀ v₀ at₀ m₀ i₀ n v at m
 abbrev μ-loop : tie.MeasureT-loop
 μ-loop frames pool opened first part ranges n₀ v₀ at₀ m₀ i₀ n v at m i = 1024 - i
 
--- src/walking.rt:60:5
 loop-holds : tie.Need-loop-holds Inv-loop μ-loop
 loop-holds c = (check-start _ _ (omega arith) (omega arith), (fits-start _ _ _ _ _ (c .before .before .before .pre .1 .1 .0), count-start _))
 
--- src/walking.rt:61:22
 cast-w : tie.Need-cast-w Inv-loop μ-loop
 cast-w c = search needs
 
--- src/walking.rt:61:17
 mul-w : tie.Need-mul-w Inv-loop μ-loop
 mul-w c = search needs
 
--- src/walking.rt:61:17
 shared-slice-read-w : tie.Need-shared-slice-read-w Inv-loop μ-loop
 shared-slice-read-w c = search needs
 
--- src/walking.rt:62:13
 joined-requires : tie.Need-joined-requires Inv-loop μ-loop
 joined-requires c κs = search needs
 
--- src/walking.rt:63:13
 step-fits-requires : tie.Need-step-fits-requires Inv-loop μ-loop
 step-fits-requires c κs = (omega arith, (check-room _ _ _ _ _ _ (c .before .before .before .loop .inv .0) _ _ (omega arith) refl (c .joined .ensures), (run-le _ _ _ _ _ _ (c .before .before .before .loop .inv .0 .walked), omega arith)))
 
 unsound-requires : tie.Need-unsound-requires Inv-loop μ-loop
 unsound-requires c κs = search needs
 
--- src/walking.rt:64:13
 returns : tie.Need-returns Inv-loop μ-loop
 returns c = (
   c .unsound .ensures
@@ -60,49 +53,39 @@ returns c = (
   λ t. true-false _ t (c .unsound .ensures),
 )
 
--- src/walking.rt:66:45
 add-page-fits : tie.Need-add-page-fits Inv-loop μ-loop
 add-page-fits c = search needs
 
--- src/walking.rt:66:13
 page-fits-requires : tie.Need-page-fits-requires Inv-loop μ-loop
 page-fits-requires c κs = search needs
 
 unsound-requires-2 : tie.Need-unsound-requires-2 Inv-loop μ-loop
 unsound-requires-2 c κs = search needs
 
--- src/walking.rt:67:13
 returns-2 : tie.Need-returns-2 Inv-loop μ-loop
 returns-2 c = (
   c .unsound2 .ensures ∙ part-wrong _ _ _ _ _ _ (all-stop _ _ _ (c .before .before .before .before .before .before .before .loop-test .taken) (sym (c .before .before .page-fits .ensures) ∙ not-true _ (c .before .if2 .taken)) ∙ sym (c .before .before .before .before .before .before .before .before .loop .inv .1 .0)),
   λ t. true-false _ t (c .unsound2 .ensures),
 )
 
--- src/walking.rt:69:9
 next-place-requires : tie.Need-next-place-requires Inv-loop μ-loop
 next-place-requires c κs = check-room _ _ _ _ _ _ (c .before .before .before .before .before .before .before .loop .inv .0) _ _ (omega arith) refl (c .before .before .before .before .joined .ensures)
 
--- src/walking.rt:70:9
 goes-on-requires : tie.Need-goes-on-requires Inv-loop μ-loop
 goes-on-requires c κs = omega (arith, run-le _ _ _ _ _ _ (c .before .before .before .before .before .before .before .before .loop .inv .0 .walked))
 
--- src/walking.rt:71:14
 one-if-mapped-requires : tie.Need-one-if-mapped-requires Inv-loop μ-loop
 one-if-mapped-requires c κs = search needs
 
--- src/walking.rt:71:9
 add-m : tie.Need-add-m Inv-loop μ-loop
 add-m c = omega (arith, c .before .before .before .before .before .before .before .before .before .before .loop .inv .1 .1, count-le (c .before .before .before .before .before .before .before .before .before .before .loop .i) (pageMapped (c .before .before .before .before .before .before .before .before .before .before .before .before .before .before .args .part .now)), one-small _ _ (c .one-if-mapped .ensures))
 
--- src/walking.rt:73:9
 add-i : tie.Need-add-i Inv-loop μ-loop
 add-i c = search needs
 
--- src/walking.rt:60:5
 loop-less : tie.Need-loop-less Inv-loop μ-loop
 loop-less c = search needs
 
--- src/walking.rt:60:5
 loop-again : tie.Need-loop-again Inv-loop μ-loop
 loop-again c =
     let fits = c .before .before .before .before .before .before .step-fits .ensures .yes (not-false _ (c .before .before .before .before .before .if1 .left)) in (
@@ -113,13 +96,11 @@ loop-again c =
       ),
     )
 
--- src/walking.rt:75:9
 rest-fits-requires : tie.Need-rest-fits-requires Inv-loop μ-loop
 rest-fits-requires c κs =
     let e : c .before .loop .i ≡ 1024 = omega (arith, c .before .loop .inv .0 .walked .inside) in
     (omega arith, (rw e at (end-room _ _ _ _ _ _ (c .before .loop .inv .0) e), omega (arith, run-le _ _ _ _ _ _ (c .before .loop .inv .0 .walked))))
 
--- src/walking.rt:47:1
 returns-3 : tie.Need-returns-3 Inv-loop μ-loop
 returns-3 c =
     let e : c .before .before .loop .i ≡ 1024 = omega (arith, c .before .before .loop .inv .0 .walked .inside) in (

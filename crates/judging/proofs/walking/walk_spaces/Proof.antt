@@ -22,103 +22,80 @@ Inv-loop mask frames pool pages ranges m₀ s₀ m s =
 abbrev μ-loop : tie.MeasureT-loop
 μ-loop mask frames pool pages ranges m₀ s₀ m s = 4 - s
 
--- src/walking.rt:89:5
 loop-holds : tie.Need-loop-holds Inv-loop μ-loop
 loop-holds c = (omega arith, (refl, count-start _))
 
--- src/walking.rt:90:13
 is-open-requires : tie.Need-is-open-requires Inv-loop μ-loop
 is-open-requires c κs = search needs
 
--- src/walking.rt:91:25
 cast-a : tie.Need-cast-a Inv-loop μ-loop
 cast-a c = search needs
 
--- src/walking.rt:91:17
 mul-a : tie.Need-mul-a Inv-loop μ-loop
 mul-a c = search needs
 
--- src/walking.rt:92:17
 add-e : tie.Need-add-e Inv-loop μ-loop
 add-e c = search needs
 
--- src/walking.rt:93:24
 cast-b : tie.Need-cast-b Inv-loop μ-loop
 cast-b c = search needs
 
--- src/walking.rt:93:17
 mul-b : tie.Need-mul-b Inv-loop μ-loop
 mul-b c = search needs
 
--- src/walking.rt:94:17
 add-f : tie.Need-add-f Inv-loop μ-loop
 add-f c = search needs
 
--- src/walking.rt:95:53
 mul-walk-space : tie.Need-mul-walk-space Inv-loop μ-loop
 mul-walk-space c = search needs
 
--- src/walking.rt:95:63
 mul-walk-space-2 : tie.Need-mul-walk-space-2 Inv-loop μ-loop
 mul-walk-space-2 c = search needs
 
--- src/walking.rt:95:63
 sub-walk-space : tie.Need-sub-walk-space Inv-loop μ-loop
 sub-walk-space c = search needs
 
--- src/walking.rt:95:63
 part-walk-space-start : tie.Need-part-walk-space-start Inv-loop μ-loop
 part-walk-space-start c = search needs
 
--- src/walking.rt:95:63
 part-walk-space-end : tie.Need-part-walk-space-end Inv-loop μ-loop
 part-walk-space-end c = search needs
 
--- src/walking.rt:95:77
 mul-walk-space-3 : tie.Need-mul-walk-space-3 Inv-loop μ-loop
 mul-walk-space-3 c = search needs
 
--- src/walking.rt:95:77
 sub-walk-space-2 : tie.Need-sub-walk-space-2 Inv-loop μ-loop
 sub-walk-space-2 c = search needs
 
--- src/walking.rt:95:77
 part-walk-space-start-2 : tie.Need-part-walk-space-start-2 Inv-loop μ-loop
 part-walk-space-start-2 c = search needs
 
--- src/walking.rt:95:77
 part-walk-space-end-2 : tie.Need-part-walk-space-end-2 Inv-loop μ-loop
 part-walk-space-end-2 c = search needs
 
--- src/walking.rt:95:13
 walk-space-requires : tie.Need-walk-space-requires Inv-loop μ-loop
 walk-space-requires c κs = search needs
 
 unsound-requires : tie.Need-unsound-requires Inv-loop μ-loop
 unsound-requires c κs = search needs
 
--- src/walking.rt:97:13
 returns : tie.Need-returns Inv-loop μ-loop
 returns c = (
   c .unsound .ensures ∙ all-stop _ _ _ (c .before .before .before .before .before .before .before .loop-test .taken) (sym (space-lent _ _ _ _ _ (c .before .before .before .before .before .before .before .before .loop .s) _ _ (c .before .before .before .before .before .before .is-open .ensures) (c .before .before .before .walk-space .ensures .0)) ∙ not-true _ (c .before .if1 .taken)) ∙ sym (c .before .before .before .before .before .before .before .before .loop .inv .1 .0),
   λ t. true-false _ t (c .unsound .ensures),
 )
 
--- src/walking.rt:99:9
 add-m : tie.Need-add-m Inv-loop μ-loop
 add-m c =
     let here = count-lent _ (c .before .before .before .before .before .before .before .before .loop .s) _ (c .before .before .before .walk-space .ensures .1 (not-false _ (c .before .if1 .left))) in
     omega (arith, c .before .before .before .before .before .before .before .before .loop .inv .1 .1, count-le (1024 * c .before .before .before .before .before .before .before .before .loop .s) (pageMapped (c .before .before .before .before .before .before .before .before .before .before .before .before .args .pages .now)), here, count-le 1024 (pageMapped (spacePages (c .before .before .before .before .before .before .before .before .before .before .before .before .args .pages .now) (c .before .before .before .before .before .before .before .before .loop .s))))
 
--- src/walking.rt:100:9
 add-s : tie.Need-add-s Inv-loop μ-loop
 add-s c = search needs
 
--- src/walking.rt:89:5
 loop-less : tie.Need-loop-less Inv-loop μ-loop
 loop-less c = search needs
 
--- src/walking.rt:89:5
 loop-again : tie.Need-loop-again Inv-loop μ-loop
 loop-again c =
     let here = not-false _ (c .before .if1 .left) in (
@@ -129,7 +106,6 @@ loop-again c =
       ),
     )
 
--- src/walking.rt:80:1
 returns-2 : tie.Need-returns-2 Inv-loop μ-loop
 returns-2 c =
     let e : c .before .loop .s ≡ 4 = omega arith in

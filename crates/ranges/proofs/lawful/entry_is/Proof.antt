@@ -8,86 +8,66 @@ use Rattle.words.specs.Wrapping.{wrapSub}
 use Rattle.runs.specs.Walk.{entryOf}
 use Rattle.runs.proofs.CheckLaws.{says-no, entry-word, last-word}
 
--- src/lawful.rt:25:8
 mul-if1 : tie.Need-mul-if1
 mul-if1 c = search needs
 
--- src/lawful.rt:25:8
 shared-slice-read-if1 : tie.Need-shared-slice-read-if1
 shared-slice-read-if1 c = search needs
 
--- src/lawful.rt:25:22
 sub-if1 : tie.Need-sub-if1
 sub-if1 c = search needs
 
--- src/lawful.rt:26:9
 returns : tie.Need-returns
 unfolding entryOf
 returns c = says-no _ refl (λ p. c .if1 .taken (entry-word _ _ _ _ _ 0 (omega arith) p))
 
--- src/lawful.rt:28:15
 add-if2 : tie.Need-add-if2
 add-if2 c = search needs
 
--- src/lawful.rt:28:8
 mul-if2 : tie.Need-mul-if2
 mul-if2 c = search needs
 
--- src/lawful.rt:28:8
 shared-slice-read-if2 : tie.Need-shared-slice-read-if2
 shared-slice-read-if2 c = search needs
 
--- src/lawful.rt:29:9
 returns-2 : tie.Need-returns-2
 unfolding entryOf
 returns-2 c = says-no _ refl (λ p. c .if2 .taken (entry-word _ _ _ _ _ 1 (omega arith) p))
 
--- src/lawful.rt:31:20
 frame-in-requires : tie.Need-frame-in-requires
 frame-in-requires c κs = search needs
 
--- src/lawful.rt:31:38
 sub-if3 : tie.Need-sub-if3
 sub-if3 c = search needs
 
--- src/lawful.rt:31:9
 offset-requires : tie.Need-offset-requires
 offset-requires c κs = search needs
 
--- src/lawful.rt:32:15
 add-if3 : tie.Need-add-if3
 add-if3 c = search needs
 
--- src/lawful.rt:32:8
 mul-if3 : tie.Need-mul-if3
 mul-if3 c = search needs
 
--- src/lawful.rt:32:8
 shared-slice-read-if3 : tie.Need-shared-slice-read-if3
 shared-slice-read-if3 c = search needs
 
--- src/lawful.rt:33:9
 returns-3 : tie.Need-returns-3
 unfolding entryOf
 returns-3 c = says-no _ refl (λ p. c .if3 .taken (entry-word _ _ _ _ _ 2 (omega arith) p ∙ sym (c .before .before .offset .ensures ∙ ap (λ (x : ℕ). wrapSub 32 x (c .before .before .before .before .before .before .before .before .before .args .b .0 - 1)) (c .before .before .before .frame-in .ensures))))
 
--- src/lawful.rt:35:9
 rights-in-requires : tie.Need-rights-in-requires
 rights-in-requires c κs = search needs
 
--- src/lawful.rt:36:12
 add-result : tie.Need-add-result
 add-result c = search needs
 
--- src/lawful.rt:36:5
 mul-result : tie.Need-mul-result
 mul-result c = search needs
 
--- src/lawful.rt:36:5
 shared-slice-read-result : tie.Need-shared-slice-read-result
 shared-slice-read-result c = search needs
 
--- src/lawful.rt:18:1
 returns-4 : tie.Need-returns-4
 returns-4 c = last-word _ _ _ _ _ _ _ (omega arith) (c .before .before .before .before .before .before .before .before .if1 .left) (c .before .before .before .before .before .before .if2 .left) (c .before .before .if3 .left) (c .before .before .before .before .offset .ensures ∙ ap (λ (x : ℕ). wrapSub 32 x (c .before .before .before .before .before .before .before .before .before .before .before .args .b .0 - 1)) (c .before .before .before .before .before .frame-in .ensures)) (c .before .rights-in .ensures)
 

@@ -3,19 +3,15 @@ use Rattle.ranges.proofs.lawful.next_place.Statement.{statement}
 use Rattle.ranges.proofs.lawful.next_place.Tie as tie
 use Rattle.runs.proofs.StepLaws.{next-on, next-short, next-long}
 
--- src/lawful.rt:79:9
 returns : tie.Need-returns
 returns c = next-on _ _ _ _ _ (c .if1 .taken)
 
--- src/lawful.rt:82:9
 returns-2 : tie.Need-returns-2
 returns-2 c = next-short _ _ _ _ _ (c .before .if1 .left) (c .if2 .taken)
 
--- src/lawful.rt:84:5
 add-result : tie.Need-add-result
 add-result c = search needs
 
--- src/lawful.rt:74:1
 returns-3 : tie.Need-returns-3
 returns-3 c = next-long _ _ _ _ _ (c .before .if1 .left) (c .if2 .left)
 

@@ -6,23 +6,18 @@ use Prim.Native.Nat.{_-_}
 use borrow.Author.Tests.{not-true, not-false}
 use Rattle.runs.proofs.CheckLaws.{says-no, says-also}
 
--- src/lawful.rt:121:9
 end-fits-requires : tie.Need-end-fits-requires
 end-fits-requires c κs = search needs
 
--- src/lawful.rt:122:9
 returns : tie.Need-returns
 returns c = says-no _ refl (λ p. c .before .end-fits .ensures .no (not-true _ (c .if1 .taken)) (p .0))
 
--- src/lawful.rt:124:9
 next-place-requires : tie.Need-next-place-requires
 next-place-requires c κs = search needs
 
--- src/lawful.rt:125:5
 zeros-from-requires : tie.Need-zeros-from-requires
 zeros-from-requires c κs = search needs
 
--- src/lawful.rt:115:1
 returns-2 : tie.Need-returns-2
 returns-2 c = says-also _ (c .before .before .before .end-fits .ensures .yes (not-false _ (c .before .before .if1 .left))) (rw (c .before .next-place .ensures) at (c .zeros-from .ensures))
 

@@ -6,19 +6,15 @@ use Prim.Native.Nat.{_-_}
 use borrow.Author.Tests.{not-true, not-false}
 use Rattle.runs.proofs.CheckLaws.{says-no, says-also}
 
--- src/lawful.rt:79:9
 end-fits-requires : tie.Need-end-fits-requires
 end-fits-requires c κs = search needs
 
--- src/lawful.rt:80:9
 returns : tie.Need-returns
 returns c = says-no _ refl (λ p. c .before .end-fits .ensures .no (not-true _ (c .if1 .taken)) (p .0))
 
--- src/lawful.rt:82:5
 word-fits-requires : tie.Need-word-fits-requires
 word-fits-requires c κs = search needs
 
--- src/lawful.rt:73:1
 returns-2 : tie.Need-returns-2
 returns-2 c = says-also _ (c .before .before .end-fits .ensures .yes (not-false _ (c .before .if1 .left))) (c .word-fits .ensures)
 

@@ -13,35 +13,27 @@ Inv-loop ranges at j₀ j = (at ≤ j) × ((j ≤ length ranges) × ((q : ℕ) �
 abbrev μ-loop : tie.MeasureT-loop
 μ-loop ranges at j₀ j = length ranges - j
 
--- src/lawful.rt:93:5
 loop-holds : tie.Need-loop-holds Inv-loop μ-loop
 loop-holds c = (omega arith, (omega arith, λ q lo hi. absurd (omega arith)))
 
--- src/lawful.rt:94:12
 mul-if1 : tie.Need-mul-if1 Inv-loop μ-loop
 mul-if1 c = search needs
 
--- src/lawful.rt:94:12
 shared-slice-read-if1 : tie.Need-shared-slice-read-if1 Inv-loop μ-loop
 shared-slice-read-if1 c = search needs
 
--- src/lawful.rt:95:13
 returns : tie.Need-returns Inv-loop μ-loop
 returns c = says-no _ refl (zeros-no (c .before .before .before .before .args .ranges .now) (c .before .before .before .before .args .at) (c .before .before .before .loop .j) (omega arith) (omega arith) (c .if1 .taken))
 
--- src/lawful.rt:97:9
 add-j : tie.Need-add-j Inv-loop μ-loop
 add-j c = search needs
 
--- src/lawful.rt:93:5
 loop-less : tie.Need-loop-less Inv-loop μ-loop
 loop-less c = search needs
 
--- src/lawful.rt:93:5
 loop-again : tie.Need-loop-again Inv-loop μ-loop
 loop-again c = (omega arith, (omega arith, zeros-more (c .before .before .before .before .args .ranges .now) (c .before .before .before .before .args .at) (c .before .before .before .loop .j) (c .if1 .left) (c .before .before .before .loop .inv .1 .1)))
 
--- src/lawful.rt:88:1
 returns-2 : tie.Need-returns-2 Inv-loop μ-loop
 returns-2 c = says-yes _ refl (zeros-end (c .before .before .args .ranges .now) (c .before .before .args .at) (c .before .loop .j) (omega arith) (omega arith) (c .before .loop .inv .1 .1))
 
