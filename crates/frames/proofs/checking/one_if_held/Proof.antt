@@ -1,7 +1,6 @@
 use borrow.Author.Needs.{needs}
 use Rattle.frames.proofs.checking.one_if_held.Statement.{statement}
 use Rattle.frames.proofs.checking.one_if_held.Tie as tie
-use Prim.Native.Nat.{_-_}
 use Rattle.blocks.proofs.HeldLaws.{counts-none, counts-one}
 
 owner-of-requires : tie.Need-owner-of-requires

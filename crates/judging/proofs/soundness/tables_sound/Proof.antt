@@ -2,7 +2,6 @@ use borrow.Author.Needs.{needs}
 use Rattle.judging.proofs.soundness.tables_sound.Statement.{statement}
 use Rattle.judging.proofs.soundness.tables_sound.Tie as tie
 use mathlib.Core.Path.{sym, _∙_}
-use Prim.Native.Nat.{_-_}
 use borrow.Author.Tests.{not-true, not-false}
 use Rattle.judging.proofs.JudgingLaws.{bad-control, bad-frames, bad-spaces, by-counting}
 

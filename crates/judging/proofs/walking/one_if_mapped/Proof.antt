@@ -1,7 +1,6 @@
 use borrow.Author.Needs.{needs}
 use Rattle.judging.proofs.walking.one_if_mapped.Statement.{statement}
 use Rattle.judging.proofs.walking.one_if_mapped.Tie as tie
-use Prim.Native.Nat.{_-_}
 use Rattle.judging.proofs.WalkingLaws.{one-mapped, one-unmapped}
 
 mapped-requires : tie.Need-mapped-requires

@@ -2,7 +2,6 @@ use borrow.Author.Needs.{needs}
 use Rattle.judging.proofs.walking.page_fits.Statement.{statement}
 use Rattle.judging.proofs.walking.page_fits.Tie as tie
 use mathlib.Core.Path.{_∙_}
-use Prim.Native.Nat.{_-_}
 use Rattle.judging.proofs.WalkingLaws.{fits-open, fits-closed}
 
 page-ok-requires : tie.Need-page-ok-requires

@@ -2,7 +2,6 @@ use borrow.Author.Needs.{needs}
 use Rattle.ranges.proofs.lawful.step_fits.Statement.{statement}
 use Rattle.ranges.proofs.lawful.step_fits.Tie as tie
 use mathlib.Core.Path.{refl}
-use Prim.Native.Nat.{_-_}
 use borrow.Author.Tests.{not-true, not-false}
 use Rattle.runs.proofs.CheckLaws.{says-no, says-also}
 
