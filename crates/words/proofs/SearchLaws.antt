@@ -1,10 +1,10 @@
 -- What the tests and searches say, and what a loop has to show at its end: that its result is the one defined.
-use mathlib.Core.Path.{_≡_, refl, ap, _∙_, sym}
+use mathlib.Core.Path.{_≡_, refl, fun-ext, ap, _∙_, sym}
 use mathlib.Core.Bool.{Bool, true, false}
 use mathlib.Core.List.{List, [], _∷_}
 use mathlib.Core.Option.{Option, none, some}
 use Prim.Native.Nat.{ℕ, zero, suc, _+_, _-_, _<_, _≤_}
-use native.Mathlib.Nat.{add-zero, le-of-suc-le-suc, not-suc-le-zero}
+use native.Mathlib.Nat.{add-zero, zero-add, le-of-suc-le-suc, not-suc-le-zero}
 use native.Mathlib.Decide.{decLt, ℕ-discrete}
 use native.Mathlib.Omega.{arith}
 use lib.ListN.{length, getD}
@@ -144,6 +144,10 @@ every-all f d l a =
     let h : g .0 < 0 + length l = g .2 in
     true-false (f (a + g .0) (getD l (g .0) d)) (every-at f d l a t (g .0) (omega arith)) (g .3))
     (λ e. e ∙ sym n))
+
+-- from place 0 on
+pub every-places : {A : Type 0} (f : ℕ → A → Bool) (d : A) (l : List A) → every f 0 l ≡ allFrom (length l) 0 (λ k. f k (getD l k d))
+every-places f d l = every-all f d l 0 ∙ ap (allFrom (length l) 0) (fun-ext (λ k. ap (λ (i : ℕ). f i (getD l k d)) (zero-add k)))
 
 pub data First (n i : ℕ) (p : ℕ → Bool) : Option ℕ → Type 0 where
   found : (k : ℕ) → i ≤ k → k < i + n → p k ≡ true → ((j : ℕ) → i ≤ j → j < k → p j ≡ false) → First n i p (some k)

@@ -1,5 +1,5 @@
 use Rattle.history.specs.Units.{noPage, pageEntryOk}
-use Rattle.words.proofs.SearchLaws.{all-step, all-stop, all-end, every-all}
+use Rattle.words.proofs.SearchLaws.{all-step, all-stop, all-end, every-places}
 use Rattle.words.specs.Searches.{allFrom, every}
 use borrow.Author.Tests.{not-true, not-false}
 use lib.ListN.{length, getD, length-map}
@@ -18,7 +18,7 @@ abbrev μ-loop : tie.MeasureT-loop
 μ-loop u k₀ k = 64 - k
 
 loop-holds : tie.Need-loop-holds Inv-loop μ-loop
-loop-holds c = let len = rw length-map at (c .good .0 .1 .1 .0 .1 .0 .1) in (omega arith, (len, rw len at (every-all pageEntryOk noPage (c .args .t1 .pages))))
+loop-holds c = let len = rw length-map at (c .good .0 .1 .1 .0 .1 .0 .1) in (omega arith, (len, rw len at (every-places pageEntryOk noPage (c .args .t1 .pages))))
 
 cast-e : tie.Need-cast-e Inv-loop μ-loop
 cast-e c = search needs
