@@ -11,6 +11,8 @@ ghost use Rattle.layout.specs.Sound.{sound};
 ghost use Rattle.history.specs.Units.{unitOk};
 ghost use Rattle.history.specs.Translate.{installed, TranslateDone, SetUpUnitDone};
 ghost use Rattle.units.specs.Translation.{requestRefusals, findingAnswer, decided, translation, freshly};
+mod performing;
+
 use finding::found;
 use history::Finding;
 use history::Unit;
@@ -18,6 +20,8 @@ use judging::right_lengths;
 use judging::tables_sound;
 use layout::Answer;
 use runs::Page;
+
+pub use crate::performing::perform;
 
 // An answer, and the unit afterwards.
 pub struct Translation {
