@@ -11,8 +11,10 @@ ghost use Rattle.layout.specs.Sound.{sound};
 ghost use Rattle.history.specs.Units.{unitOk};
 ghost use Rattle.history.specs.Translate.{installed, TranslateDone, SetUpUnitDone};
 ghost use Rattle.units.specs.Translation.{requestRefusals, findingAnswer, decided, translation, freshly};
+
 mod performing;
 
+pub use crate::performing::perform;
 use finding::found;
 use history::Finding;
 use history::Unit;
@@ -21,12 +23,17 @@ use judging::tables_sound;
 use layout::Answer;
 use runs::Page;
 
-pub use crate::performing::perform;
-
 // An answer, and the unit afterwards.
 pub struct Translation {
     pub unit: Unit,
     pub answer: Answer,
+}
+
+// An answer beside a unit.
+fn beside(u: Unit, a: Answer) -> Translation
+    ensures { λ r. ⌜ r ≡ record { unit = u; answer = a } ⌝ }
+{
+    Translation { unit: u, answer: a }
 }
 
 // Whether the tables are sound and the unit is not malformed.
@@ -148,15 +155,9 @@ pub fn decide(
     let answer = answer_found(p, access, f);
     let o = tables::outcome(answer);
     if o.number != 0 {
-        return Translation {
-            answer: answer,
-            unit: u,
-        };
+        return beside(u, answer);
     }
-    Translation {
-        answer: answer,
-        unit: install_found(v, ranges, space, p, f),
-    }
+    beside(install_found(v, ranges, space, p, f), answer)
 }
 
 // Translate, with the unit by value.
@@ -175,10 +176,7 @@ pub fn translated(
     let judged = judge_request(u, control, frames, pages, ranges, space, page, access);
     let o = tables::outcome(judged);
     if o.number != 0 {
-        return Translation {
-            answer: judged,
-            unit: u,
-        };
+        return beside(u, judged);
     }
     decide(u, control, pages, ranges, space, Page(page), access)
 }

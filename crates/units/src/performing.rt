@@ -1,23 +1,12 @@
 // The nine calls by one function: what it promises is the step of a list of calls.
-ghost use mathlib.Core.Path.{_≡_};
 ghost use Rattle.layout.specs.Tables.{tables};
 ghost use Rattle.history.specs.Lists.{Does};
+use crate::Translation;
+use crate::beside;
 use crate::fresh;
 use crate::translated;
-use crate::Translation;
 use history::Call;
 use history::Unit;
-use layout::Answer;
-
-// An answer with the unit as it was.
-fn beside(u: Unit, a: Answer) -> Translation
-    ensures { λ r. ⌜ (r .unit ≡ u) × (r .answer ≡ a) ⌝ }
-{
-    Translation {
-        unit: u,
-        answer: a,
-    }
-}
 
 // Makes a call on the lent buffers and the unit given.
 pub fn perform(
@@ -31,14 +20,47 @@ pub fn perform(
     ensures { λ r. ⌜ Does (tables (now (control .entry)) (now (frames .entry)) (now (pages .entry)) (now (ranges .entry))) u (r .answer) call (tables (now (control .exit)) (now (frames .exit)) (now (pages .exit)) (now (ranges .exit))) (r .unit) ⌝ }
 {
     match call {
-        Call::SetUpPool(pool) => beside(u, tables::set_up_pool(control, frames, pages, ranges, pool)),
+        Call::SetUpPool(pool) => beside(
+            u,
+            tables::set_up_pool(control, frames, pages, ranges, pool),
+        ),
         Call::SetUpUnit => fresh(),
         Call::Open(space) => beside(u, tables::open(control, frames, pages, ranges, space)),
         Call::Close(space) => beside(u, tables::close(control, frames, pages, ranges, space)),
-        Call::Map { space, first, count, rights } => beside(u, tables::map(control, frames, pages, ranges, space, first, count, rights)),
-        Call::Unmap { space, first, count } => beside(u, tables::unmap(control, frames, pages, ranges, space, first, count)),
-        Call::Protect { space, first, count, rights } => beside(u, tables::protect(control, frames, pages, ranges, space, first, count, rights)),
-        Call::Translate { space, page, access } => translated(u, control, frames, pages, ranges, space, page, access),
-        Call::Coverage(space) => beside(u, measuring::coverage(control, frames, pages, ranges, space)),
+        Call::Map {
+            space,
+            first,
+            count,
+            rights,
+        } => beside(
+            u,
+            tables::map(control, frames, pages, ranges, space, first, count, rights),
+        ),
+        Call::Unmap {
+            space,
+            first,
+            count,
+        } => beside(
+            u,
+            tables::unmap(control, frames, pages, ranges, space, first, count),
+        ),
+        Call::Protect {
+            space,
+            first,
+            count,
+            rights,
+        } => beside(
+            u,
+            tables::protect(control, frames, pages, ranges, space, first, count, rights),
+        ),
+        Call::Translate {
+            space,
+            page,
+            access,
+        } => translated(u, control, frames, pages, ranges, space, page, access),
+        Call::Coverage(space) => beside(
+            u,
+            measuring::coverage(control, frames, pages, ranges, space),
+        ),
     }
 }

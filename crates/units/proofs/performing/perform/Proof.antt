@@ -11,7 +11,6 @@ use Rattle.tables.proofs.protect.Reads as protect-reads
 use Rattle.tables.proofs.set_up_pool.Reads as set-up-pool-reads
 use Rattle.tables.proofs.unmap.Reads as unmap-reads
 use Rattle.units.proofs.fresh.Reads as fresh-reads
-use Rattle.units.proofs.performing.beside.Reads as beside-reads
 use Rattle.units.proofs.translated.Reads as translated-reads
 use Rattle.history.specs.Lists.{sets-up, opens, closes, maps, unmaps, protects, measures}
 use Rattle.units.proofs.PerformLaws.{beside-does, fresh-does, translated-does}
