@@ -1,4 +1,4 @@
--- Document 01, At the edges: the cases marked ◆ as one table and one theorem, all of it by computation. What is got comes from the calls' own definitions, what is wanted is typed from 01.
+-- Document 01, At the edges: the cases marked ◆, and the two pool sizes beside them, as one table and one theorem, all of it by computation. What is got comes from the calls' own definitions, what is wanted is typed from 01.
 -- The first call is lent zeroed buffers, every later one what the calls before it left.
 -- The 64 and 65 removal records are put into the control buffer by `appended`, as unmap, protect and close append them, not by so many calls; the unit is typed.
 use mathlib.Core.Path.{_≡_, refl}
@@ -90,9 +90,13 @@ framesIn (w ∷ ws) = elim (mapped w) [ true ↦ frameIn w ∷ framesIn ws | fal
 unfoldable pub saidFrames : Made → List ℕ
 saidFrames m = said m ++ framesIn (spacePages (m .left .pages) 0)
 
--- answer, and the range table that space 0 has then
+-- answer, and the page words and the range table that space 0 has then
 unfoldable pub saidRanges : Made → List ℕ
-saidRanges m = said m ++ spaceRanges (m .left .ranges) 0
+saidRanges m = said m ++ (spacePages (m .left .pages) 0 ++ spaceRanges (m .left .ranges) 0)
+
+-- the words w, w + 1, .. of n pages
+unfoldable pub from : ℕ → ℕ → List ℕ
+from n w = tabFrom n w (λ x. x)
 
 -- Units
 
@@ -154,7 +158,7 @@ case g w = record { got = g; want = w }
 
 -- of a pool of 6 frames and one of 32, space 0 open in both: arguments, so that they are computed once
 unfoldable pub casesFrom : Made → Made → List Case
-casesFrom six more =
+casesFrom six thirtyTwo =
     -- "F = 0: 4."
     case (said (setUp 0)) (4 ∷ 0 ∷ 0 ∷ [])
     -- "F = 6: free blocks at 0 (order 2) and 4 (order 1)."
@@ -165,32 +169,32 @@ casesFrom six more =
     -- "F = 6, map 5: frames 0 to 4, 2 blocks."
     ∷ case (saidFrames (mapPages six 0 0 5 3)) ((0 ∷ 2 ∷ 0 ∷ []) ++ (0 ∷ 1 ∷ 2 ∷ 3 ∷ 4 ∷ []))
     -- "F = 32, map 11: 3 blocks, frames 0 to 10."
-    ∷ case (saidFrames (mapPages more 0 0 11 3)) ((0 ∷ 3 ∷ 0 ∷ []) ++ (0 ∷ 1 ∷ 2 ∷ 3 ∷ 4 ∷ 5 ∷ 6 ∷ 7 ∷ 8 ∷ 9 ∷ 10 ∷ []))
+    ∷ case (saidFrames (mapPages thirtyTwo 0 0 11 3)) ((0 ∷ 3 ∷ 0 ∷ []) ++ (0 ∷ 1 ∷ 2 ∷ 3 ∷ 4 ∷ 5 ∷ 6 ∷ 7 ∷ 8 ∷ 9 ∷ 10 ∷ []))
     -- "First 1,023, count 1 accepted."
-    ∷ case (said (mapPages more 0 1023 1 3)) (0 ∷ 1 ∷ 0 ∷ [])
+    ∷ case (said (mapPages thirtyTwo 0 1023 1 3)) (0 ∷ 1 ∷ 0 ∷ [])
     -- "Count 2: 8."
-    ∷ case (said (mapPages more 0 1023 2 3)) (8 ∷ 0 ∷ 0 ∷ [])
+    ∷ case (said (mapPages thirtyTwo 0 1023 2 3)) (8 ∷ 0 ∷ 0 ∷ [])
     -- "Count 0: 8."
-    ∷ case (said (mapPages more 0 1023 0 3)) (8 ∷ 0 ∷ 0 ∷ [])
+    ∷ case (said (mapPages thirtyTwo 0 1023 0 3)) (8 ∷ 0 ∷ 0 ∷ [])
     -- "A 7-page run is no range."
-    ∷ case (saidRanges (mapPages more 0 0 7 3)) ((0 ∷ 3 ∷ 0 ∷ []) ++ replicate 512 0)
+    ∷ case (saidRanges (mapPages thirtyTwo 0 0 7 3)) ((0 ∷ 3 ∷ 0 ∷ []) ++ (from 7 77824 ++ (replicate 1017 0 ++ replicate 512 0)))
     -- "An 8-page run is one."
-    ∷ case (saidRanges (mapPages more 0 0 8 3)) ((0 ∷ 1 ∷ 0 ∷ []) ++ (0 ∷ 8 ∷ 0 ∷ 3 ∷ replicate 508 0))
+    ∷ case (saidRanges (mapPages thirtyTwo 0 0 8 3)) ((0 ∷ 1 ∷ 0 ∷ []) ++ (from 8 110592 ++ (replicate 1016 0 ++ (0 ∷ 8 ∷ 0 ∷ 3 ∷ replicate 508 0))))
     -- "F = 32, pages 0 to 7, then 8 to 15, same rights: one range of 16."
-    ∷ case (saidRanges (mapPages (mapPages more 0 0 8 3) 0 8 8 3)) ((0 ∷ 1 ∷ 0 ∷ []) ++ (0 ∷ 16 ∷ 0 ∷ 3 ∷ replicate 508 0))
+    ∷ case (saidRanges (mapPages (mapPages thirtyTwo 0 0 8 3) 0 8 8 3)) ((0 ∷ 1 ∷ 0 ∷ []) ++ (from 16 110592 ++ (replicate 1008 0 ++ (0 ∷ 16 ∷ 0 ∷ 3 ∷ replicate 508 0))))
     -- "Different rights: two."
-    ∷ case (saidRanges (mapPages (mapPages more 0 0 8 3) 0 8 8 1)) ((0 ∷ 1 ∷ 0 ∷ []) ++ (0 ∷ 8 ∷ 0 ∷ 3 ∷ 8 ∷ 16 ∷ 0 ∷ 1 ∷ replicate 504 0))
+    ∷ case (saidRanges (mapPages (mapPages thirtyTwo 0 0 8 3) 0 8 8 1)) ((0 ∷ 1 ∷ 0 ∷ []) ++ (from 8 110592 ++ (from 8 102408 ++ (replicate 1008 0 ++ (0 ∷ 8 ∷ 0 ∷ 3 ∷ 8 ∷ 16 ∷ 0 ∷ 1 ∷ replicate 504 0)))))
     -- "64 unseen records are applied singly.": of 64, and of 65 where the first is seen
     ∷ case (unitNumbers (caughtUp (logged (freshControl 32) 64) (behind 0))) (unitNumbers (singly (set (replicate 64 noPage) 9 (pageEntry 9 5)) 64))
     ∷ case (unitNumbers (caughtUp (logged (freshControl 32) 65) (behind 1)))
     (unitNumbers (singly (set (set (replicate 64 noPage) 9 (pageEntry 9 5)) 37 (pageEntry 101 6)) 65))
     -- in a translation: the entry of page 9 holds it, those of pages 101 and 164 are gone
-    ∷ case (translated (withLog more 64) 9) (0 ∷ 5 ∷ 1 ∷ [])
-    ∷ case (translated (withLog more 64) 101) (12 ∷ 0 ∷ 0 ∷ [])
-    ∷ case (translated (withLog more 64) 164) (12 ∷ 0 ∷ 0 ∷ [])
+    ∷ case (translated (withLog thirtyTwo 64) 9) (0 ∷ 5 ∷ 1 ∷ [])
+    ∷ case (translated (withLog thirtyTwo 64) 101) (12 ∷ 0 ∷ 0 ∷ [])
+    ∷ case (translated (withLog thirtyTwo 64) 164) (12 ∷ 0 ∷ 0 ∷ [])
     -- "65 make the unit fresh."
     ∷ case (unitNumbers (caughtUp (logged (freshControl 32) 65) (behind 0))) (replicate 512 0 ++ (32 ∷ 0 ∷ 65 ∷ []))
-    ∷ case (translated (withLog more 65) 9) (12 ∷ 0 ∷ 0 ∷ [])
+    ∷ case (translated (withLog thirtyTwo 65) 9) (12 ∷ 0 ∷ 0 ∷ [])
     ∷ []
 
 unfoldable pub cases : List Case
@@ -214,7 +218,7 @@ unfolding tabFrom tabulate imap part count one-if allFrom anyFrom every firstFro
     noPage noRange emptied frameBy pageEntryOk rangeEntryOk lastOk unitOk
     removalAt names namesEntry overlaps keepPage keepRange keepLast dropped applied seenAll caughtUp
     holdsPage covers coveringPlace inWord inRanges finding isFound frameFound rightsFound wayFound isAccess allows found translateRefusals translateAnswer
-    made zeroed setUp openSpace mapPages ready numbers said framesIn saidFrames saidRanges
+    made zeroed setUp openSpace mapPages ready numbers said framesIn saidFrames saidRanges from
     logged pageEntry rangeEntry behind singly pageNumbers rangeNumbers unitNumbers withLog translated
     casesFrom cases agrees
 edge-cases = refl

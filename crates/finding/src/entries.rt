@@ -1,5 +1,6 @@
 // The entries of a unit that hold a page.
 ghost use mathlib.Core.Path.{_≡_};
+ghost use Prim.Native.Nat.{_≤_};
 ghost use Rattle.words.specs.Searches.{firstFrom};
 ghost use Rattle.history.specs.Translate.{holdsPage, covers, coveringPlace};
 ghost use Rattle.finding.specs.Places.{placeOr, rangeCovers};
@@ -42,6 +43,7 @@ pub fn covers(e: RangeEntry, s: u32, p: Page) -> bool
 // The place of the first range entry that covers the page, or 32.
 fn first_covering(u: Unit, s: u32, p: Page) -> u32
     ensures { λ r. ⌜ firstFrom 32 0 (rangeCovers u s (p .0)) ≡ placeOr r ⌝ }
+    ensures { λ r. ⌜ r ≤ 32 ⌝ }
 {
     let mut k: u32 = 0;
     while k < 32 {
@@ -57,6 +59,7 @@ fn first_covering(u: Unit, s: u32, p: Page) -> u32
 // The place of the range entry that decides, or 32: last used is tried first, then ascending.
 pub fn covering_place(u: Unit, s: u32, p: Page) -> u32
     ensures { λ r. ⌜ coveringPlace u s (p .0) ≡ placeOr r ⌝ }
+    ensures { λ r. ⌜ r ≤ 32 ⌝ }
 {
     let last = u.last;
     if 31 < last {

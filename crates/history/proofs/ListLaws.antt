@@ -1,12 +1,12 @@
 -- What a call of a list is lent, and that every call, refused 1 or not, keeps the invariant.
 use mathlib.Core.Path.{_≡_, refl, ap, _∙_, sym, subst}
 use mathlib.Core.Bool.{Bool, true, false, _&&_, _||_, not}
-use mathlib.Core.List.{List, _∷_}
+use mathlib.Core.List.{List, [], _∷_}
 use Prim.Native.Nat.{ℕ}
 use native.Mathlib.Omega.{arith}
 use lib.Dec.{ltb}
-use lib.ListN.{length, drop, length-take, length-drop, take-append-drop}
-use lib.Seq.{drop-drop}
+use lib.ListN.{length, drop, length-take, length-drop, length-append, take-append-drop}
+use lib.Seq.{drop-drop, take-append-seam, drop-append-seam}
 use borrow.Author.Tests.{ne-eqb, ltb-true, not-true}
 use Rattle.words.specs.Tables.{part, onPart}
 use Rattle.words.specs.Refusals
@@ -22,7 +22,7 @@ use Rattle.history.specs.declared.Unit.{Unit as TlbUnit}
 use Rattle.history.specs.declared.Call.{Call}
 use Rattle.history.specs.Translate.{translateRefusals}
 use Rattle.history.specs.History.{Event}
-use Rattle.history.specs.Lists.{Does, sets-up, sets-up-unit, opens, closes, maps, unmaps, protects, translates, measures, World, Buffer, Control, Frames, Pages, Ranges, Lent, own, piece, foreign, Lending, wordsOf, lentWords, lentTables, sameBuffer, putBack, wordsBack, givenBack, withUnit, Asked, exactLength, lentLength, fitting, isOwn, inPlace, isSetUpUnit, takesUnit, mayBeAsked, misfit, mayStand, Stepped, event}
+use Rattle.history.specs.Lists.{Does, sets-up, sets-up-unit, opens, closes, maps, unmaps, protects, translates, measures, World, Buffer, Control, Frames, Pages, Ranges, Stretch, piece, foreign, Lent, own, joined, Lending, wordsOf, stretchWords, joinedWords, lentWords, lentTables, sameBuffer, stretchLength, putStretch, putJoined, putBack, wordsBack, givenBack, withUnit, Asked, exactLength, joinedLength, lentLength, fitting, isOwn, inPlace, isSetUpUnit, takesUnit, mayBeAsked, misfit, mayStand, Stepped, event}
 use Rattle.history.proofs.AnswerLaws.{translate-exactly}
 use Rattle.history.proofs.Invariant.{Inv}
 use Rattle.history.proofs.StepLaws.{refused-keeps, refused-is, eventOf, unit-same, set-up-keeps, open-keeps, map-keeps, unmap-keeps, protect-keeps, close-keeps, coverage-keeps, set-up-unit-keeps, translate-keeps}
@@ -49,35 +49,12 @@ same-is Ranges Ranges t = refl
 own-is : (b : Buffer) (l : Lent) → isOwn b l ≡ true → l ≡ own b
 unfolding isOwn
 own-is b (own c) t = ap own (sym (same-is b c t))
-own-is b (piece c a n) t = true-false false t refl
-own-is b (foreign ws) t = true-false false t refl
+own-is b (joined ss) t = true-false false t refl
 
 -- a part put back as it was
 part-back : {A : Type 0} (a n : ℕ) (l : List A) → onPart a n (λ y. part a n l) l ≡ l
 unfolding onPart part
 part-back a n l = rw (← drop-drop n a l, take-append-drop n (drop a l), take-append-drop a l)
-
--- what was lent, left as it was
-put-same : (T : Tables) (b : Buffer) (l : Lent) → putBack b l (lentWords T l) (wordsOf T b) ≡ wordsOf T b
-unfolding putBack lentWords
-put-same T b (own c) =
-    by-test (sameBuffer b c) (λ y. rw (y, putBack) (ap (wordsOf T) (sym (same-is b c y)))) (λ n. rw (n, putBack))
-put-same T b (piece c a n) =
-    by-test (sameBuffer b c)
-    (λ y. rw (y, putBack, ← same-is b c y) (part-back a n (wordsOf T b)))
-    (λ o. rw (o, putBack))
-put-same T b (foreign ws) = refl
-
-back-same : (T : Tables) (l : Lending) → givenBack T l (lentTables T l) ≡ T
-unfolding givenBack lentTables wordsBack wordsOf
-back-same T l =
-    ap₄ (all Control) (all Frames) (all Pages) (all Ranges)
-  where
-    all : (b : Buffer) → wordsBack l (lentTables T l) b (wordsOf T b) ≡ wordsOf T b
-    all b = rw (put-same T b (l .control), put-same T b (l .frames), put-same T b (l .pages), put-same T b (l .ranges))
-
-    ap₄ : {c c′ f f′ p p′ r r′ : List ℕ} → c ≡ c′ → f ≡ f′ → p ≡ p′ → r ≡ r′ → tables c f p r ≡ tables c′ f′ p′ r′
-    ap₄ x y z w = rw (x, y, z, w)
 
 -- lengths of what is lent
 module _ (T : Tables) (right : Lengths T) where
@@ -88,15 +65,55 @@ module _ (T : Tables) (right : Lengths T) where
   own-length Pages = right .pages
   own-length Ranges = right .ranges
 
+  stretch-length : (s : Stretch) → length (stretchWords T s) ≡ stretchLength s
+  unfolding stretchWords stretchLength part
+  stretch-length (piece b a n) = length-take n (drop a (wordsOf T b)) ∙ rw (length-drop a (wordsOf T b), own-length b)
+  stretch-length (foreign ws) = refl
+
+  joined-length : (ss : List Stretch) → length (joinedWords T ss) ≡ joinedLength ss
+  unfolding joinedWords joinedLength
+  joined-length [] = refl
+  joined-length (s ∷ ss) = length-append (stretchWords T s) (joinedWords T ss) ∙ rw (stretch-length s, joined-length ss)
+
   lent-length : (l : Lent) → length (lentWords T l) ≡ lentLength l
-  unfolding lentWords lentLength part
+  unfolding lentWords lentLength
   lent-length (own b) = own-length b
-  lent-length (piece b a n) = length-take n (drop a (wordsOf T b)) ∙ rw (length-drop a (wordsOf T b), own-length b)
-  lent-length (foreign ws) = refl
+  lent-length (joined ss) = joined-length ss
 
   lent-fits : (l : Lending) → rightLengths (lentTables T l) ≡ fitting l
   unfolding rightLengths lentTables fitting
   lent-fits l = rw (lent-length (l .control), lent-length (l .frames), lent-length (l .pages), lent-length (l .ranges))
+
+  -- what was lent, left as it was
+  stretch-same : (b : Buffer) (s : Stretch) → putStretch b s (stretchWords T s) (wordsOf T b) ≡ wordsOf T b
+  unfolding putStretch stretchWords
+  stretch-same b (piece c a n) =
+      by-test (sameBuffer b c)
+      (λ y. rw (y, putStretch, ← same-is b c y) (part-back a n (wordsOf T b)))
+      (λ o. rw (o, putStretch))
+  stretch-same b (foreign ws) = refl
+
+  joined-same : (b : Buffer) (ss : List Stretch) → putJoined b ss (joinedWords T ss) (wordsOf T b) ≡ wordsOf T b
+  unfolding putJoined joinedWords
+  joined-same b [] = refl
+  joined-same b (s ∷ ss) =
+      rw (← stretch-length s, take-append-seam (stretchWords T s) (joinedWords T ss), drop-append-seam (stretchWords T s) (joinedWords T ss), stretch-same b s) (joined-same b ss)
+
+  put-same : (b : Buffer) (l : Lent) → putBack b l (lentWords T l) (wordsOf T b) ≡ wordsOf T b
+  unfolding putBack lentWords
+  put-same b (own c) = by-test (sameBuffer b c) (λ y. rw (y, putBack) (ap (wordsOf T) (sym (same-is b c y)))) (λ n. rw (n, putBack))
+  put-same b (joined ss) = joined-same b ss
+
+  back-same : (l : Lending) → givenBack T l (lentTables T l) ≡ T
+  unfolding givenBack lentTables wordsBack wordsOf
+  back-same l =
+      ap₄ (all Control) (all Frames) (all Pages) (all Ranges)
+    where
+      all : (b : Buffer) → wordsBack l (lentTables T l) b (wordsOf T b) ≡ wordsOf T b
+      all b = rw (put-same b (l .control), put-same b (l .frames), put-same b (l .pages), put-same b (l .ranges))
+
+      ap₄ : {c c′ f f′ p p′ r r′ : List ℕ} → c ≡ c′ → f ≡ f′ → p ≡ p′ → r ≡ r′ → tables c f p r ≡ tables c′ f′ p′ r′
+      ap₄ x y z w = rw (x, y, z, w)
 
 -- a call lent a buffer of wrong length is refused, and leaves everything as it was
 pub record Untouched (T : Tables) (u : TlbUnit) (r : Answer) (T′ : Tables) (u′ : TlbUnit) : Type 0 where
@@ -180,7 +197,7 @@ module _ (F n : ℕ) (W : World) (past : List Event) (v : Inv F n W past) (a : A
       let wrong : rightLengths (lentTables (W .tables) (a .lent)) ≡ false = lent-fits (W .tables) (lengths-at (W .tables) (v .agrees .judged .lengths)) (a .lent) ∙ not-true _ (q .1) in
       let k = misfit-untouched (lentTables (W .tables) (a .lent)) wrong (W .units (a .unit)) r (a .call) (st .left) (st .unit) (not-true _ (q .0)) (st .does) in
       refused-keeps F n W past v (eventOf (a .call) (a .unit) r) W′ (k .not-accepted)
-      (st .tables-back ∙ ap (givenBack (W .tables) (a .lent)) (k .tables-stay) ∙ back-same (W .tables) (a .lent))
+      (st .tables-back ∙ ap (givenBack (W .tables) (a .lent)) (k .tables-stay) ∙ back-same (W .tables) (lengths-at (W .tables) (v .agrees .judged .lengths)) (a .lent))
       (λ x lt. ap (λ (us : ℕ → TlbUnit). us x) (st .units-back) ∙ ap (λ (y : TlbUnit). withUnit (W .units) (a .unit) y x) (k .unit-stays) ∙ unit-same (W .units) (a .unit) x)
 
   in-place-keeps : inPlace (a .lent) ≡ true → mayBeAsked (a .call) ≡ true → (not (takesUnit (a .call)) || ltb (a .unit) n) ≡ true → Inv F n W′ (event a r ∷ past)
@@ -209,7 +226,7 @@ module _ (F n : ℕ) (W : World) (past : List Event) (v : Inv F n W past) (a : A
   unfolding event
   unit-step-keeps y =
       let k = set-up-unit-step (a .call) (st .left) (st .unit) y (st .does) in
-      rw (world-is W′ _ _ (st .tables-back ∙ ap (givenBack (W .tables) (a .lent)) (k .0) ∙ back-same (W .tables) (a .lent)) (st .units-back)) (k .1)
+      rw (world-is W′ _ _ (st .tables-back ∙ ap (givenBack (W .tables) (a .lent)) (k .0) ∙ back-same (W .tables) (lengths-at (W .tables) (v .agrees .judged .lengths)) (a .lent)) (st .units-back)) (k .1)
 
   -- every call that may stand in a list
   pub step-keeps : mayStand n a ≡ true → Inv F n W′ (event a r ∷ past)

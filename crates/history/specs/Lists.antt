@@ -2,10 +2,10 @@
 -- a refused pool set-up or a call refused 1 may stand in it too. Unless refused 1, each call is lent those of the pool's four buffers that it takes, and a call on a unit also that unit, all as the calls before left them."
 use mathlib.Core.Path.{_≡_}
 use mathlib.Core.Bool.{Bool, true, false, _&&_, _||_, not}
-use mathlib.Core.List.{List, [], _∷_}
-use Prim.Native.Nat.{ℕ, min, _-_, _<_}
+use mathlib.Core.List.{List, [], _∷_, _++_}
+use Prim.Native.Nat.{ℕ, min, _+_, _-_, _<_}
 use lib.Dec.{ltb, eqb}
-use lib.ListN.{length}
+use lib.ListN.{length, take, drop}
 use Rattle.words.specs.Tables.{part, onPart}
 use Rattle.words.specs.Searches.{every}
 use Rattle.blocks.specs.FrameWords.{isPoolSize}
@@ -44,11 +44,15 @@ pub data Buffer : Type 0 where
   Pages : Buffer
   Ranges : Buffer
 
--- in a place of a call stands one of the pool's buffers, a part of one (from a word on, so many words), or any other words
+-- a stretch of words that are lent: a part of one of the pool's buffers (from a word on, so many words), or any other words
+pub data Stretch : Type 0 where
+  piece : Buffer → ℕ → ℕ → Stretch
+  foreign : List ℕ → Stretch
+
+-- in a place of a call stands one of the pool's buffers, or any stretches, one after the other
 pub data Lent : Type 0 where
   own : Buffer → Lent
-  piece : Buffer → ℕ → ℕ → Lent
-  foreign : List ℕ → Lent
+  joined : List Stretch → Lent
 
 -- the four places of a call
 pub record Lending : Type 0 where
@@ -63,10 +67,17 @@ wordsOf T Frames = T .frames
 wordsOf T Pages = T .pages
 wordsOf T Ranges = T .ranges
 
+unfoldable pub stretchWords : Tables → Stretch → List ℕ
+stretchWords T (piece b a n) = part a n (wordsOf T b)
+stretchWords T (foreign ws) = ws
+
+unfoldable pub joinedWords : Tables → List Stretch → List ℕ
+joinedWords T [] = []
+joinedWords T (s ∷ ss) = stretchWords T s ++ joinedWords T ss
+
 unfoldable pub lentWords : Tables → Lent → List ℕ
 lentWords T (own b) = wordsOf T b
-lentWords T (piece b a n) = part a n (wordsOf T b)
-lentWords T (foreign ws) = ws
+lentWords T (joined ss) = joinedWords T ss
 
 unfoldable pub lentTables : Tables → Lending → Tables
 lentTables T l = tables (lentWords T (l .control)) (lentWords T (l .frames)) (lentWords T (l .pages)) (lentWords T (l .ranges))
@@ -89,11 +100,30 @@ sameBuffer Ranges Frames = false
 sameBuffer Ranges Pages = false
 sameBuffer Ranges Ranges = true
 
--- the words ws of a buffer when `left` is what the call left in a place: changed where the buffer, or a part of it, was lent there
+-- "Control, 195 words", "Frames, 4,096 words", "Pages, 4,096 words", "Ranges, 2,048 words": lengths that no call changes
+unfoldable pub exactLength : Buffer → ℕ
+exactLength Control = 195
+exactLength Frames = 4096
+exactLength Pages = 4096
+exactLength Ranges = 2048
+
+unfoldable pub stretchLength : Stretch → ℕ
+stretchLength (piece b a n) = min n (exactLength b - a)
+stretchLength (foreign ws) = length ws
+
+-- the words ws of a buffer when `left` is what the call left in a stretch: changed where the stretch is a part of it
+unfoldable pub putStretch : Buffer → Stretch → List ℕ → List ℕ → List ℕ
+putStretch b (piece c a n) left ws = elim (sameBuffer b c) [ true ↦ onPart a n (λ y. left) ws | false ↦ ws ]
+putStretch b (foreign xs) left ws = ws
+
+unfoldable pub putJoined : Buffer → List Stretch → List ℕ → List ℕ → List ℕ
+putJoined b [] left ws = ws
+putJoined b (s ∷ ss) left ws = putJoined b ss (drop (stretchLength s) left) (putStretch b s (take (stretchLength s) left) ws)
+
+-- in a place
 unfoldable pub putBack : Buffer → Lent → List ℕ → List ℕ → List ℕ
 putBack b (own c) left ws = elim (sameBuffer b c) [ true ↦ left | false ↦ ws ]
-putBack b (piece c a n) left ws = elim (sameBuffer b c) [ true ↦ onPart a n (λ y. left) ws | false ↦ ws ]
-putBack b (foreign xs) left ws = ws
+putBack b (joined ss) left ws = putJoined b ss left ws
 
 -- after all four places
 unfoldable pub wordsBack : Lending → Tables → Buffer → List ℕ → List ℕ
@@ -115,17 +145,13 @@ pub record Asked : Type 0 where
   pub unit : ℕ
   pub lent : Lending
 
--- "Control, 195 words", "Frames, 4,096 words", "Pages, 4,096 words", "Ranges, 2,048 words": lengths that no call changes
-unfoldable pub exactLength : Buffer → ℕ
-exactLength Control = 195
-exactLength Frames = 4096
-exactLength Pages = 4096
-exactLength Ranges = 2048
+unfoldable pub joinedLength : List Stretch → ℕ
+joinedLength [] = 0
+joinedLength (s ∷ ss) = stretchLength s + joinedLength ss
 
 unfoldable pub lentLength : Lent → ℕ
 lentLength (own b) = exactLength b
-lentLength (piece b a n) = min n (exactLength b - a)
-lentLength (foreign ws) = length ws
+lentLength (joined ss) = joinedLength ss
 
 -- every place has a buffer of its length
 unfoldable pub fitting : Lending → Bool
@@ -133,8 +159,7 @@ fitting l = eqb (lentLength (l .control)) 195 && (eqb (lentLength (l .frames)) 4
 
 unfoldable pub isOwn : Buffer → Lent → Bool
 isOwn b (own c) = sameBuffer b c
-isOwn b (piece c a n) = false
-isOwn b (foreign ws) = false
+isOwn b (joined ss) = false
 
 -- "those of the pool's four buffers that it takes": every call on the pool takes all four
 unfoldable pub inPlace : Lending → Bool

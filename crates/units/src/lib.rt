@@ -131,7 +131,7 @@ fn install_found(u: Unit, ranges: &[u32], space: u32, p: Page, f: Finding) -> Un
 }
 
 // For a request and a unit that are judged: the unit catches up, the first that holds the page decides, and what it gives is installed. A refusal leaves the unit as it was lent.
-pub fn decide(
+fn decide(
     u: Unit,
     control: &[u32],
     pages: &[u32],

@@ -37,7 +37,7 @@ covers-requires c κs = search needs
 
 -- src/entries.rt:50:13
 returns : tie.Need-returns Inv-loop μ-loop
-returns c = first-covers _ _ _ _ (omega arith) (sym (range-read _ _ _ _ _ (omega arith)) ∙ (sym (c .before .covers .ensures) ∙ c .if1 .taken)) (c .before .before .before .before .loop .inv .1 .1)
+returns c = (first-covers _ _ _ _ (omega arith) (sym (range-read _ _ _ _ _ (omega arith)) ∙ (sym (c .before .covers .ensures) ∙ c .if1 .taken)) (c .before .before .before .before .loop .inv .1 .1), omega arith)
 
 -- src/entries.rt:52:9
 add-k : tie.Need-add-k Inv-loop μ-loop
@@ -53,7 +53,7 @@ loop-again c = (omega arith, (c .before .before .before .before .loop .inv .1 .0
 
 -- src/entries.rt:43:1
 returns-2 : tie.Need-returns-2 Inv-loop μ-loop
-returns-2 c = none-covers _ _ _ _ (omega arith) (c .before .loop .inv .1 .1)
+returns-2 c = (none-covers _ _ _ _ (omega arith) (c .before .loop .inv .1 .1), omega arith)
 
 pub first-covering-spec : {M : Type 1} → statement M
 first-covering-spec =

@@ -43,7 +43,7 @@ element-copy-out-r c = search needs
 
 -- src/found.rt:29:9
 returns-2 : tie.Need-returns-2
-returns-2 c = by-range _ _ _ _ _ _ (rw length-map at (c .before .before .before .before .before .before .good .0 .1 .1 .1 .0 .1 .0 .1)) (c .before .before .covering-place .ensures) (c .before .if2 .taken) ∙ sym (no-page _ _ _ _ _ (rw length-map at (c .before .before .before .before .before .before .good .0 .1 .1 .0 .1 .0 .1)) (sym (c .before .before .before .before .holds-page .ensures) ∙ c .before .before .before .if1 .left))
+returns-2 c = by-range _ _ _ _ _ _ (rw length-map at (c .before .before .before .before .before .before .good .0 .1 .1 .1 .0 .1 .0 .1)) (c .before .before .covering-place .ensures .0) (c .before .if2 .taken) ∙ sym (no-page _ _ _ _ _ (rw length-map at (c .before .before .before .before .before .before .good .0 .1 .1 .0 .1 .0 .1)) (sym (c .before .before .before .before .holds-page .ensures) ∙ c .before .before .before .if1 .left))
 
 -- src/found.rt:31:8
 mapped-requires : tie.Need-mapped-requires
@@ -51,11 +51,11 @@ mapped-requires c κs = search needs
 
 -- src/found.rt:32:9
 returns-3 : tie.Need-returns-3
-returns-3 c = by-word _ (sym (c .before .mapped .ensures) ∙ c .if3 .taken) ∙ (sym (no-range _ _ _ _ _ (c .before .before .before .covering-place .ensures) (c .before .before .if2 .left)) ∙ sym (no-page _ _ _ _ _ (rw length-map at (c .before .before .before .before .before .before .before .good .0 .1 .1 .0 .1 .0 .1)) (sym (c .before .before .before .before .before .holds-page .ensures) ∙ c .before .before .before .before .if1 .left)))
+returns-3 c = by-word _ (sym (c .before .mapped .ensures) ∙ c .if3 .taken) ∙ (sym (no-range _ _ _ _ _ (c .before .before .before .covering-place .ensures .0) (c .before .before .if2 .left)) ∙ sym (no-page _ _ _ _ _ (rw length-map at (c .before .before .before .before .before .before .before .good .0 .1 .1 .0 .1 .0 .1)) (sym (c .before .before .before .before .before .holds-page .ensures) ∙ c .before .before .before .before .if1 .left)))
 
 -- src/found.rt:17:1
 returns-4 : tie.Need-returns-4
-returns-4 c = nowhere _ (sym (c .before .mapped .ensures) ∙ c .if3 .left) ∙ (sym (no-range _ _ _ _ _ (c .before .before .before .covering-place .ensures) (c .before .before .if2 .left)) ∙ sym (no-page _ _ _ _ _ (rw length-map at (c .before .before .before .before .before .before .before .good .0 .1 .1 .0 .1 .0 .1)) (sym (c .before .before .before .before .before .holds-page .ensures) ∙ c .before .before .before .before .if1 .left)))
+returns-4 c = nowhere _ (sym (c .before .mapped .ensures) ∙ c .if3 .left) ∙ (sym (no-range _ _ _ _ _ (c .before .before .before .covering-place .ensures .0) (c .before .before .if2 .left)) ∙ sym (no-page _ _ _ _ _ (rw length-map at (c .before .before .before .before .before .before .before .good .0 .1 .1 .0 .1 .0 .1)) (sym (c .before .before .before .before .before .holds-page .ensures) ∙ c .before .before .before .before .if1 .left)))
 
 pub find-spec : {M : Type 1} → statement M
 find-spec =

@@ -1,0 +1,87 @@
+//! coretrace against the second program: equal listings, byte for byte.
+use crate::second::{coretrace, output, reference, root};
+use std::collections::BTreeMap;
+
+pub const STYLES: [&str; 5] = ["mixed", "sleep", "fragment", "big", "garbage"];
+
+/// What each style must reach, by the second program's own count.
+fn must_reach(style: &str) -> Vec<String> {
+    let words: &[&str] = match style {
+        "mixed" => &["answer_0", "answer_2", "answer_4", "answer_5", "answer_6", "answer_7", "answer_8", "answer_9", "answer_10", "answer_11", "answer_12", "answer_13", "answer_14", "answer_16", "way_1", "way_2", "way_3"],
+        "sleep" => &["behind_63", "behind_64", "behind_65", "way_1", "way_2", "way_3"],
+        "fragment" => &["answer_0", "answer_14", "way_3"],
+        "big" => &["answer_0", "way_2", "way_3"],
+        "garbage" => &["answer_16"],
+        _ => &[],
+    };
+    words.iter().map(|w| w.to_string()).collect()
+}
+
+fn same(name: &str, input: &[u8]) -> bool {
+    let theirs = output(&reference(), &["run"], input);
+    let ours = output(&coretrace(), &[], input);
+    if ours != theirs {
+        println!("{name}: the listings differ");
+        for (i, (a, b)) in String::from_utf8_lossy(&ours).lines().zip(String::from_utf8_lossy(&theirs).lines()).enumerate() {
+            if a != b {
+                println!("  line {}: coretrace `{a}`, second program `{b}`", i + 1);
+                break;
+            }
+        }
+        return false;
+    }
+    true
+}
+
+/// Stored record files in text form.
+fn hard() -> bool {
+    let mut fine = true;
+    let mut names: Vec<_> = std::fs::read_dir(root().join("tests/hard")).unwrap().map(|e| e.unwrap().path()).filter(|p| p.extension().is_some_and(|e| e == "trace")).collect();
+    names.sort();
+    for path in &names {
+        let text = std::fs::read(path).unwrap();
+        let input = output(&reference(), &["encode"], &text);
+        fine &= same(&path.display().to_string(), &input);
+        let listing = path.with_extension("listing");
+        if listing.exists() {
+            let wanted = std::fs::read(&listing).unwrap();
+            if output(&coretrace(), &[], &input) != wanted {
+                println!("{}: not the listing that is stored", path.display());
+                fine = false;
+            }
+        }
+    }
+    println!("{} stored files", names.len());
+    fine && !names.is_empty()
+}
+
+pub fn compare(files: u64, first: u64) -> bool {
+    let mut fine = hard();
+    for style in STYLES {
+        let mut reached: BTreeMap<String, u64> = BTreeMap::new();
+        for seed in first..first + files {
+            let n = (20 + seed % 180).to_string();
+            let input = output(&reference(), &["gen", &seed.to_string(), &n, style], &[]);
+            if !same(&format!("seed {seed}, {n} records, style {style}"), &input) {
+                println!("  again: compare listings 1 {seed}");
+                return false;
+            }
+            if seed % 8 == 0 {
+                let stats = output(&reference(), &["stats"], &input);
+                for line in String::from_utf8_lossy(&stats).lines() {
+                    let mut words = line.split_whitespace();
+                    if let (Some(name), Some(value)) = (words.next(), words.next().and_then(|v| v.parse::<u64>().ok())) {
+                        *reached.entry(name.to_string()).or_default() += value;
+                    }
+                }
+            }
+        }
+        let missing: Vec<String> = must_reach(style).into_iter().filter(|w| reached.get(w).copied().unwrap_or(0) == 0).collect();
+        println!("style {style}: seeds {first} to {}, {files} files equal", first + files - 1);
+        if files >= 100 && !missing.is_empty() {
+            println!("  not reached: {}", missing.join(" "));
+            fine = false;
+        }
+    }
+    fine
+}

@@ -1,0 +1,154 @@
+//! Random lists of calls: after each call every word of the buffers and of the units is the same as the second program's.
+use crate::kernel::*;
+use crate::random::Random;
+use crate::second::Second;
+use std::collections::BTreeMap;
+
+/// How often each thing occurred.
+#[derive(Default)]
+pub struct Seen(pub BTreeMap<String, u64>);
+
+impl Seen {
+    pub fn note(&mut self, what: String) {
+        *self.0.entry(what).or_default() += 1;
+    }
+
+    /// Prints the counts; false where one that must occur did not.
+    pub fn report(&self, must: &[String]) -> bool {
+        let counts: Vec<String> = self.0.iter().map(|(k, v)| format!("{k} {v}")).collect();
+        println!("  {}", counts.join(", "));
+        let missing: Vec<&String> = must.iter().filter(|w| self.0.get(*w).copied().unwrap_or(0) == 0).collect();
+        if !missing.is_empty() {
+            println!("  not reached: {missing:?}");
+        }
+        missing.is_empty()
+    }
+}
+
+/// The first word that differs, in words.
+fn difference(a: &World, b: &World) -> String {
+    for (name, x, y) in [("control", &a.control, &b.control), ("frames", &a.frames, &b.frames), ("pages", &a.pages, &b.pages), ("ranges", &a.ranges, &b.ranges), ("unit", &a.unit, &b.unit)] {
+        if x.len() != y.len() {
+            return format!("{name}: lengths {} and {}", x.len(), y.len());
+        }
+        if let Some(i) = (0..x.len()).find(|&i| x[i] != y[i]) {
+            return format!("{name} word {i}: proved {}, second program {}", x[i], y[i]);
+        }
+    }
+    "nothing".to_string()
+}
+
+/// Makes one call both ways; the answer, or what differs. A refusal alters no word.
+pub fn both(second: &mut Second, world: &mut World, call: Call) -> Result<Answer, String> {
+    let before = world.clone();
+    let mut other = world.clone();
+    let theirs = second.call(&mut other, call);
+    let ours = world.call(call);
+    if ours != theirs {
+        return Err(format!("{call:?}: proved {ours:?}, second program {theirs:?}"));
+    }
+    if *world != other {
+        return Err(format!("{call:?} {ours:?}: {}", difference(world, &other)));
+    }
+    if ours.number != 0 && *world != before {
+        return Err(format!("{call:?} {ours:?} altered a word: {}", difference(world, &before)));
+    }
+    Ok(ours)
+}
+
+/// A call whose numbers mostly make sense in a space that is in use.
+pub fn some_call(r: &mut Random, world: &World) -> Call {
+    let space = if r.one_in(40) { r.word() } else { r.below(4) as u32 };
+    let first = if r.one_in(60) { r.word() } else { r.below(if r.one_in(3) { 1024 } else { 48 }) as u32 };
+    let count = match r.below(30) {
+        0 => r.word(),
+        1 => 0,
+        2 => 1 + r.below(1024) as u32,
+        3..=8 => 8 + r.below(16) as u32,
+        _ => 1 + r.below(9) as u32,
+    };
+    let rights = if r.one_in(40) { 8 + r.below(3) as u32 } else { r.pick(&[3, 3, 3, 1, 7, 5, 0, 2]) };
+    let access = if r.one_in(30) { r.below(9) as u32 } else { r.pick(&[1, 1, 1, 2, 4]) };
+    let (kind, arguments) = match r.below(40) {
+        0..=2 => (OPEN, [space, 0, 0, 0]),
+        3 => (CLOSE, [space, 0, 0, 0]),
+        4..=11 => (MAP, [space, first, count, rights]),
+        12..=16 => (UNMAP, [space, first, count, 0]),
+        17..=19 => (PROTECT, [space, first, count, rights]),
+        20 => (COVERAGE, [space, 0, 0, 0]),
+        21 if r.one_in(8) => (SET_UP_UNIT, [0; 4]),
+        22 if r.one_in(12) => (SET_UP_POOL, [if r.one_in(2) { 0 } else { 4097 + r.below(3) as u32 }, 0, 0, 0]),
+        _ => (TRANSLATE, [space, mapped_page(r, world, space).unwrap_or(first), access, 0]),
+    };
+    Call { kind, arguments }
+}
+
+/// Mostly a page that is mapped.
+fn mapped_page(r: &mut Random, world: &World, space: u32) -> Option<u32> {
+    if r.one_in(6) || space > 3 || world.pages.len() != 4096 {
+        return None;
+    }
+    let base = 1024 * space as usize;
+    let from = r.below(1024) as usize;
+    (0..1024).map(|i| (from + i) % 1024).find(|p| world.pages[base + p] >= 65536).map(|p| p as u32)
+}
+
+/// A list from set up pool on, with two units.
+fn list(second: &mut Second, seed: u64, seen: &mut Seen) -> Result<(), String> {
+    let mut r = Random::new(seed);
+    let mut world = World::zeroed();
+    for w in world.control.iter_mut().chain(&mut world.pages).chain(&mut world.unit) {
+        *w = r.word();
+    }
+    let any = 1 + r.below(4096) as u32;
+    let pool = r.pick(&[32, 64, 100, 700, 4096, any]);
+    both(second, &mut world, Call { kind: SET_UP_POOL, arguments: [pool, 0, 0, 0] })?;
+    both(second, &mut world, Call { kind: SET_UP_UNIT, arguments: [0; 4] })?;
+    let mut other_unit = world.unit.clone();
+    both(second, &mut world, Call { kind: OPEN, arguments: [0; 4] })?;
+    // one in four lists lets a unit sleep through many removals
+    let sleep = seed % 4 == 0;
+    for turn in 0..160 {
+        let mut call = some_call(&mut r, &world);
+        if sleep && turn % 40 == 20 {
+            for _ in 0..r.pick(&[63, 64, 65]) {
+                // a removal record that costs nothing: a page of space 3 mapped and unmapped
+                both(second, &mut world, Call { kind: OPEN, arguments: [3, 0, 0, 0] })?;
+                both(second, &mut world, Call { kind: CLOSE, arguments: [3, 0, 0, 0] })?;
+            }
+            call.kind = TRANSLATE;
+            let page = mapped_page(&mut r, &world, 0).unwrap_or(0);
+            call.arguments = [0, page, 1, 0];
+        }
+        if r.one_in(3) {
+            std::mem::swap(&mut world.unit, &mut other_unit);
+        }
+        let behind = world.control[1].wrapping_sub(world.unit[SEEN]);
+        let answer = both(second, &mut world, call).map_err(|e| format!("call {turn}: {e}"))?;
+        seen.note(format!("answer_{}", answer.number));
+        if call.kind == TRANSLATE {
+            if answer.number == 0 {
+                seen.note(format!("way_{}", answer.second));
+            }
+            if (63..=65).contains(&behind) {
+                seen.note(format!("behind_{behind}"));
+            }
+        }
+    }
+    Ok(())
+}
+
+pub fn compare(lists: u64, first: u64) -> bool {
+    let mut second = Second::start();
+    let mut seen = Seen::default();
+    for seed in first..first + lists {
+        if let Err(what) = list(&mut second, seed, &mut seen) {
+            println!("list of seed {seed}: {what}\n  again: compare lists 1 {seed}");
+            return false;
+        }
+    }
+    println!("lists of calls: seeds {first} to {}, equal after every call", first + lists - 1);
+    let must = ["answer_0", "answer_4", "answer_5", "answer_6", "answer_7", "answer_8", "answer_9", "answer_10", "answer_11", "answer_12", "answer_13", "answer_14", "way_1", "way_2", "way_3", "behind_63", "behind_64", "behind_65"];
+    let must: Vec<String> = must.iter().map(|w| w.to_string()).collect();
+    seen.report(if lists >= 100 { &must } else { &[] })
+}
