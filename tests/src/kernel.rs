@@ -39,20 +39,134 @@ pub const SEEN: usize = 514;
 
 impl World {
     pub fn zeroed() -> World {
-        World { control: vec![0; 195], frames: vec![0; 4096], pages: vec![0; 4096], ranges: vec![0; 2048], unit: vec![0; UNIT] }
+        World {
+            control: vec![0; 195],
+            frames: vec![0; 4096],
+            pages: vec![0; 4096],
+            ranges: vec![0; 2048],
+            unit: vec![0; UNIT],
+        }
     }
 }
 
 // a slice crosses as a pointer and a length in words
 extern "C" {
-    fn yavrestom_set_up_pool(control: *mut u32, cn: usize, frames: *mut u32, fnn: usize, pages: *mut u32, pn: usize, ranges: *mut u32, rn: usize, pool: u32, values: *mut u32, vn: usize) -> u32;
-    fn yavrestom_open(control: *mut u32, cn: usize, frames: *mut u32, fnn: usize, pages: *mut u32, pn: usize, ranges: *mut u32, rn: usize, space: u32, values: *mut u32, vn: usize) -> u32;
-    fn yavrestom_close(control: *mut u32, cn: usize, frames: *mut u32, fnn: usize, pages: *mut u32, pn: usize, ranges: *mut u32, rn: usize, space: u32, values: *mut u32, vn: usize) -> u32;
-    fn yavrestom_map(control: *mut u32, cn: usize, frames: *mut u32, fnn: usize, pages: *mut u32, pn: usize, ranges: *mut u32, rn: usize, space: u32, first: u32, count: u32, rights: u32, values: *mut u32, vn: usize) -> u32;
-    fn yavrestom_unmap(control: *mut u32, cn: usize, frames: *mut u32, fnn: usize, pages: *mut u32, pn: usize, ranges: *mut u32, rn: usize, space: u32, first: u32, count: u32, values: *mut u32, vn: usize) -> u32;
-    fn yavrestom_protect(control: *mut u32, cn: usize, frames: *mut u32, fnn: usize, pages: *mut u32, pn: usize, ranges: *mut u32, rn: usize, space: u32, first: u32, count: u32, rights: u32, values: *mut u32, vn: usize) -> u32;
-    fn yavrestom_coverage(control: *mut u32, cn: usize, frames: *mut u32, fnn: usize, pages: *mut u32, pn: usize, ranges: *mut u32, rn: usize, space: u32, values: *mut u32, vn: usize) -> u32;
-    fn yavrestom_translate(unit: *mut u32, un: usize, control: *mut u32, cn: usize, frames: *mut u32, fnn: usize, pages: *mut u32, pn: usize, ranges: *mut u32, rn: usize, space: u32, page: u32, access: u32, values: *mut u32, vn: usize) -> u32;
+    fn yavrestom_set_up_pool(
+        control: *mut u32,
+        cn: usize,
+        frames: *mut u32,
+        fnn: usize,
+        pages: *mut u32,
+        pn: usize,
+        ranges: *mut u32,
+        rn: usize,
+        pool: u32,
+        values: *mut u32,
+        vn: usize,
+    ) -> u32;
+    fn yavrestom_open(
+        control: *mut u32,
+        cn: usize,
+        frames: *mut u32,
+        fnn: usize,
+        pages: *mut u32,
+        pn: usize,
+        ranges: *mut u32,
+        rn: usize,
+        space: u32,
+        values: *mut u32,
+        vn: usize,
+    ) -> u32;
+    fn yavrestom_close(
+        control: *mut u32,
+        cn: usize,
+        frames: *mut u32,
+        fnn: usize,
+        pages: *mut u32,
+        pn: usize,
+        ranges: *mut u32,
+        rn: usize,
+        space: u32,
+        values: *mut u32,
+        vn: usize,
+    ) -> u32;
+    fn yavrestom_map(
+        control: *mut u32,
+        cn: usize,
+        frames: *mut u32,
+        fnn: usize,
+        pages: *mut u32,
+        pn: usize,
+        ranges: *mut u32,
+        rn: usize,
+        space: u32,
+        first: u32,
+        count: u32,
+        rights: u32,
+        values: *mut u32,
+        vn: usize,
+    ) -> u32;
+    fn yavrestom_unmap(
+        control: *mut u32,
+        cn: usize,
+        frames: *mut u32,
+        fnn: usize,
+        pages: *mut u32,
+        pn: usize,
+        ranges: *mut u32,
+        rn: usize,
+        space: u32,
+        first: u32,
+        count: u32,
+        values: *mut u32,
+        vn: usize,
+    ) -> u32;
+    fn yavrestom_protect(
+        control: *mut u32,
+        cn: usize,
+        frames: *mut u32,
+        fnn: usize,
+        pages: *mut u32,
+        pn: usize,
+        ranges: *mut u32,
+        rn: usize,
+        space: u32,
+        first: u32,
+        count: u32,
+        rights: u32,
+        values: *mut u32,
+        vn: usize,
+    ) -> u32;
+    fn yavrestom_coverage(
+        control: *mut u32,
+        cn: usize,
+        frames: *mut u32,
+        fnn: usize,
+        pages: *mut u32,
+        pn: usize,
+        ranges: *mut u32,
+        rn: usize,
+        space: u32,
+        values: *mut u32,
+        vn: usize,
+    ) -> u32;
+    fn yavrestom_translate(
+        unit: *mut u32,
+        un: usize,
+        control: *mut u32,
+        cn: usize,
+        frames: *mut u32,
+        fnn: usize,
+        pages: *mut u32,
+        pn: usize,
+        ranges: *mut u32,
+        rn: usize,
+        space: u32,
+        page: u32,
+        access: u32,
+        values: *mut u32,
+        vn: usize,
+    ) -> u32;
     fn yavrestom_set_up_unit(unit: *mut u32, un: usize, values: *mut u32, vn: usize) -> u32;
 }
 
@@ -81,6 +195,10 @@ impl World {
                 _ => yavrestom_set_up_unit(up, un, v, 2),
             }
         };
-        Answer { number, first: values[0], second: values[1] }
+        Answer {
+            number,
+            first: values[0],
+            second: values[1],
+        }
     }
 }

@@ -7,7 +7,25 @@ pub const STYLES: [&str; 5] = ["mixed", "sleep", "fragment", "big", "garbage"];
 /// What each style must reach, by the second program's own count.
 fn must_reach(style: &str) -> Vec<String> {
     let words: &[&str] = match style {
-        "mixed" => &["answer_0", "answer_2", "answer_4", "answer_5", "answer_6", "answer_7", "answer_8", "answer_9", "answer_10", "answer_11", "answer_12", "answer_13", "answer_14", "answer_16", "way_1", "way_2", "way_3"],
+        "mixed" => &[
+            "answer_0",
+            "answer_2",
+            "answer_4",
+            "answer_5",
+            "answer_6",
+            "answer_7",
+            "answer_8",
+            "answer_9",
+            "answer_10",
+            "answer_11",
+            "answer_12",
+            "answer_13",
+            "answer_14",
+            "answer_16",
+            "way_1",
+            "way_2",
+            "way_3",
+        ],
         "sleep" => &["behind_63", "behind_64", "behind_65", "way_1", "way_2", "way_3"],
         "fragment" => &["answer_0", "answer_14", "way_3"],
         "big" => &["answer_0", "way_2", "way_3"],
@@ -36,7 +54,11 @@ fn same(name: &str, input: &[u8]) -> bool {
 /// Stored record files in text form.
 fn hard() -> bool {
     let mut fine = true;
-    let mut names: Vec<_> = std::fs::read_dir(root().join("tests/hard")).unwrap().map(|e| e.unwrap().path()).filter(|p| p.extension().is_some_and(|e| e == "trace")).collect();
+    let mut names: Vec<_> = std::fs::read_dir(root().join("tests/hard"))
+        .unwrap()
+        .map(|e| e.unwrap().path())
+        .filter(|p| p.extension().is_some_and(|e| e == "trace"))
+        .collect();
     names.sort();
     for path in &names {
         let text = std::fs::read(path).unwrap();

@@ -27,7 +27,13 @@ impl Seen {
 
 /// The first word that differs, in words.
 fn difference(a: &World, b: &World) -> String {
-    for (name, x, y) in [("control", &a.control, &b.control), ("frames", &a.frames, &b.frames), ("pages", &a.pages, &b.pages), ("ranges", &a.ranges, &b.ranges), ("unit", &a.unit, &b.unit)] {
+    for (name, x, y) in [
+        ("control", &a.control, &b.control),
+        ("frames", &a.frames, &b.frames),
+        ("pages", &a.pages, &b.pages),
+        ("ranges", &a.ranges, &b.ranges),
+        ("unit", &a.unit, &b.unit),
+    ] {
         if x.len() != y.len() {
             return format!("{name}: lengths {} and {}", x.len(), y.len());
         }
@@ -59,7 +65,11 @@ pub fn both(second: &mut Second, world: &mut World, call: Call) -> Result<Answer
 /// A call whose numbers mostly make sense in a space that is in use.
 pub fn some_call(r: &mut Random, world: &World) -> Call {
     let space = if r.one_in(40) { r.word() } else { r.below(4) as u32 };
-    let first = if r.one_in(60) { r.word() } else { r.below(if r.one_in(3) { 1024 } else { 48 }) as u32 };
+    let first = if r.one_in(60) {
+        r.word()
+    } else {
+        r.below(if r.one_in(3) { 1024 } else { 48 }) as u32
+    };
     let count = match r.below(30) {
         0 => r.word(),
         1 => 0,
@@ -67,7 +77,11 @@ pub fn some_call(r: &mut Random, world: &World) -> Call {
         3..=8 => 8 + r.below(16) as u32,
         _ => 1 + r.below(9) as u32,
     };
-    let rights = if r.one_in(40) { 8 + r.below(3) as u32 } else { r.pick(&[3, 3, 3, 1, 7, 5, 0, 2]) };
+    let rights = if r.one_in(40) {
+        8 + r.below(3) as u32
+    } else {
+        r.pick(&[3, 3, 3, 1, 7, 5, 0, 2])
+    };
     let access = if r.one_in(30) { r.below(9) as u32 } else { r.pick(&[1, 1, 1, 2, 4]) };
     let (kind, arguments) = match r.below(40) {
         0..=2 => (OPEN, [space, 0, 0, 0]),
@@ -102,8 +116,22 @@ fn list(second: &mut Second, seed: u64, seen: &mut Seen) -> Result<(), String> {
     }
     let any = 1 + r.below(4096) as u32;
     let pool = r.pick(&[32, 64, 100, 700, 4096, any]);
-    both(second, &mut world, Call { kind: SET_UP_POOL, arguments: [pool, 0, 0, 0] })?;
-    both(second, &mut world, Call { kind: SET_UP_UNIT, arguments: [0; 4] })?;
+    both(
+        second,
+        &mut world,
+        Call {
+            kind: SET_UP_POOL,
+            arguments: [pool, 0, 0, 0],
+        },
+    )?;
+    both(
+        second,
+        &mut world,
+        Call {
+            kind: SET_UP_UNIT,
+            arguments: [0; 4],
+        },
+    )?;
     let mut other_unit = world.unit.clone();
     both(second, &mut world, Call { kind: OPEN, arguments: [0; 4] })?;
     // one in four lists lets a unit sleep through many removals
@@ -113,8 +141,22 @@ fn list(second: &mut Second, seed: u64, seen: &mut Seen) -> Result<(), String> {
         if sleep && turn % 40 == 20 {
             for _ in 0..r.pick(&[63, 64, 65]) {
                 // a removal record that costs nothing: a page of space 3 mapped and unmapped
-                both(second, &mut world, Call { kind: OPEN, arguments: [3, 0, 0, 0] })?;
-                both(second, &mut world, Call { kind: CLOSE, arguments: [3, 0, 0, 0] })?;
+                both(
+                    second,
+                    &mut world,
+                    Call {
+                        kind: OPEN,
+                        arguments: [3, 0, 0, 0],
+                    },
+                )?;
+                both(
+                    second,
+                    &mut world,
+                    Call {
+                        kind: CLOSE,
+                        arguments: [3, 0, 0, 0],
+                    },
+                )?;
             }
             call.kind = TRANSLATE;
             let page = mapped_page(&mut r, &world, 0).unwrap_or(0);
@@ -148,7 +190,26 @@ pub fn compare(lists: u64, first: u64) -> bool {
         }
     }
     println!("lists of calls: seeds {first} to {}, equal after every call", first + lists - 1);
-    let must = ["answer_0", "answer_4", "answer_5", "answer_6", "answer_7", "answer_8", "answer_9", "answer_10", "answer_11", "answer_12", "answer_13", "answer_14", "way_1", "way_2", "way_3", "behind_63", "behind_64", "behind_65"];
+    let must = [
+        "answer_0",
+        "answer_4",
+        "answer_5",
+        "answer_6",
+        "answer_7",
+        "answer_8",
+        "answer_9",
+        "answer_10",
+        "answer_11",
+        "answer_12",
+        "answer_13",
+        "answer_14",
+        "way_1",
+        "way_2",
+        "way_3",
+        "behind_63",
+        "behind_64",
+        "behind_65",
+    ];
     let must: Vec<String> = must.iter().map(|w| w.to_string()).collect();
     seen.report(if lists >= 100 { &must } else { &[] })
 }

@@ -1,7 +1,8 @@
 //! Compares the proved manager with the second program: listings of coretrace, and every word that the exported calls leave.
+mod bench;
 mod kernel;
-mod lists;
 mod listing;
+mod lists;
 mod random;
 mod second;
 mod states;
@@ -13,7 +14,7 @@ fn number(word: Option<&String>, default: u64) -> u64 {
 }
 
 fn usage() -> ! {
-    eprintln!("compare listings [FILES_A_STYLE [FIRST_SEED]] | lists [LISTS [FIRST_SEED]] | damaged [INPUTS [FIRST_SEED]] | planted");
+    eprintln!("compare listings [FILES_A_STYLE [FIRST_SEED]] | lists [LISTS [FIRST_SEED]] | damaged [INPUTS [FIRST_SEED]] | planted | bench [RECORDS]");
     exit(2)
 }
 
@@ -24,6 +25,7 @@ fn main() {
         Some("lists") => lists::compare(number(words.get(1), 200), number(words.get(2), 1)),
         Some("damaged") => states::compare(number(words.get(1), 100_000), number(words.get(2), 1)),
         Some("planted") => planted(),
+        Some("bench") => bench::bench(number(words.get(1), 20_000)),
         _ => usage(),
     };
     if !fine {

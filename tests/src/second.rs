@@ -56,7 +56,12 @@ fn get(from: &mut impl Read, n: usize) -> Vec<u32> {
 
 impl Second {
     pub fn start() -> Second {
-        let mut child = Command::new(reference()).arg("state").stdin(Stdio::piped()).stdout(Stdio::piped()).spawn().unwrap();
+        let mut child = Command::new(reference())
+            .arg("state")
+            .stdin(Stdio::piped())
+            .stdout(Stdio::piped())
+            .spawn()
+            .unwrap();
         let to = BufWriter::with_capacity(1 << 16, child.stdin.take().unwrap());
         let from = BufReader::with_capacity(1 << 16, child.stdout.take().unwrap());
         Second { child, to, from }
@@ -77,7 +82,11 @@ impl Second {
             *words = get(&mut self.from, n);
         }
         world.unit = get(&mut self.from, UNIT);
-        Answer { number: head[0], first: head[1], second: head[2] }
+        Answer {
+            number: head[0],
+            first: head[1],
+            second: head[2],
+        }
     }
 }
 

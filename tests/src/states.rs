@@ -8,10 +8,19 @@ use crate::second::Second;
 fn state(r: &mut Random) -> World {
     let mut world = World::zeroed();
     let pool = r.pick(&[32, 100, 700, 4096]);
-    world.call(Call { kind: SET_UP_POOL, arguments: [pool, 0, 0, 0] });
-    world.call(Call { kind: SET_UP_UNIT, arguments: [0; 4] });
+    world.call(Call {
+        kind: SET_UP_POOL,
+        arguments: [pool, 0, 0, 0],
+    });
+    world.call(Call {
+        kind: SET_UP_UNIT,
+        arguments: [0; 4],
+    });
     world.call(Call { kind: OPEN, arguments: [0; 4] });
-    world.call(Call { kind: OPEN, arguments: [2, 0, 0, 0] });
+    world.call(Call {
+        kind: OPEN,
+        arguments: [2, 0, 0, 0],
+    });
     for _ in 0..40 {
         let call = some_call(r, &world);
         if call.kind != SET_UP_POOL && call.kind != SET_UP_UNIT {
@@ -32,7 +41,11 @@ fn damage(r: &mut Random, w: &mut World) -> &'static str {
         _ => &mut w.unit,
     };
     let n = buffer.len();
-    let at = if r.one_in(2) { r.below(n as u64) as usize } else { r.below(n.min(64) as u64) as usize };
+    let at = if r.one_in(2) {
+        r.below(n as u64) as usize
+    } else {
+        r.below(n.min(64) as u64) as usize
+    };
     match kind {
         0..=2 => {
             buffer[at] = r.word();
@@ -124,7 +137,10 @@ pub fn compare(inputs: u64, first: u64) -> bool {
         }
         let mut call = some_call(&mut r, &world);
         if r.one_in(3) {
-            call = Call { kind: TRANSLATE, arguments: [r.below(3) as u32, r.below(1024) as u32, 1, 0] };
+            call = Call {
+                kind: TRANSLATE,
+                arguments: [r.below(3) as u32, r.below(1024) as u32, 1, 0],
+            };
             // ask for a page that an entry of the unit covers
             let k = r.below(32) as usize;
             if world.unit.len() == UNIT && world.unit[320 + 6 * k] == 1 {
@@ -149,7 +165,28 @@ pub fn compare(inputs: u64, first: u64) -> bool {
         }
     }
     println!("damaged and foreign inputs: seeds {first} to {}, equal", first + inputs - 1);
-    let must = ["word", "swap", "scratch", "length", "records_near_the_last", "seen_above", "last_used", "next_place", "foreign_page_entry", "foreign_range_entry", "answer_0", "answer_1", "answer_2", "answer_3", "answer_12", "answer_13", "answer_15", "way_1", "way_2", "way_3"];
+    let must = [
+        "word",
+        "swap",
+        "scratch",
+        "length",
+        "records_near_the_last",
+        "seen_above",
+        "last_used",
+        "next_place",
+        "foreign_page_entry",
+        "foreign_range_entry",
+        "answer_0",
+        "answer_1",
+        "answer_2",
+        "answer_3",
+        "answer_12",
+        "answer_13",
+        "answer_15",
+        "way_1",
+        "way_2",
+        "way_3",
+    ];
     let must: Vec<String> = must.iter().map(|w| w.to_string()).collect();
     seen.report(if inputs >= 10_000 { &must } else { &[] })
 }

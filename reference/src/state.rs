@@ -1,0 +1,96 @@
+//! Single calls on lent words, as little-endian 32-bit words in and out.
+
+use std::io::{self, Read, Write};
+
+use crate::tables;
+use crate::unit::{self, Rules, Unit, UNIT_WORDS};
+use crate::words::{Buffers, Outcome};
+
+/// The next word; none at the end of input.
+fn word_or_end<R: Read>(input: &mut R) -> io::Result<Option<u32>> {
+    let mut bytes = [0; 4];
+    let mut at = 0;
+    while at < 4 {
+        match input.read(&mut bytes[at..]) {
+            Ok(0) if at == 0 => return Ok(None),
+            Ok(0) => return Err(io::ErrorKind::UnexpectedEof.into()),
+            Ok(n) => at += n,
+            Err(e) if e.kind() == io::ErrorKind::Interrupted => {}
+            Err(e) => return Err(e),
+        }
+    }
+    Ok(Some(u32::from_le_bytes(bytes)))
+}
+
+fn word<R: Read>(input: &mut R) -> io::Result<u32> {
+    word_or_end(input)?.ok_or_else(|| io::ErrorKind::UnexpectedEof.into())
+}
+
+fn words<R: Read>(input: &mut R, count: usize) -> io::Result<Vec<u32>> {
+    (0..count).map(|_| word(input)).collect()
+}
+
+fn buffer<R: Read>(input: &mut R) -> io::Result<Vec<u32>> {
+    let count = word(input)? as usize;
+    words(input, count)
+}
+
+fn put<W: Write>(output: &mut W, words: &[u32]) -> io::Result<()> {
+    let bytes: Vec<u8> = words.iter().flat_map(|w| w.to_le_bytes()).collect();
+    output.write_all(&bytes)
+}
+
+/// Makes one call by its number.
+pub fn perform(
+    command: u32,
+    b: &mut Buffers,
+    unit: &mut Unit,
+    args: [u32; 4],
+    rules: &Rules,
+) -> Option<Outcome> {
+    let [a0, a1, a2, a3] = args;
+    Some(match command {
+        1 => tables::set_up_pool(b, a0),
+        2 => tables::open(b, a0),
+        3 => tables::close(b, a0),
+        4 => tables::map(b, a0, a1, a2, a3),
+        5 => tables::unmap(b, a0, a1, a2),
+        6 => tables::protect(b, a0, a1, a2, a3),
+        7 => unit::translate(b, unit, a0, a1, a2, rules),
+        8 => tables::coverage(b, a0),
+        9 => unit::set_up_unit(unit),
+        _ => return None,
+    })
+}
+
+/// Answers commands until the end of input.
+pub fn serve<R: Read, W: Write>(input: &mut R, output: &mut W, rules: &Rules) -> io::Result<()> {
+    while let Some(command) = word_or_end(input)? {
+        let mut b = Buffers {
+            control: buffer(input)?,
+            frames: buffer(input)?,
+            pages: buffer(input)?,
+            ranges: buffer(input)?,
+        };
+        let mut unit_words = [0; UNIT_WORDS];
+        unit_words.copy_from_slice(&words(input, UNIT_WORDS)?);
+        let mut unit = Unit::from_words(&unit_words);
+        let mut args = [0; 4];
+        args.copy_from_slice(&words(input, 4)?);
+
+        let outcome = perform(command, &mut b, &mut unit, args, rules).ok_or_else(|| {
+            io::Error::new(io::ErrorKind::InvalidData, format!("no command {command}"))
+        })?;
+        match outcome {
+            Ok((first, second)) => put(output, &[0, first, second])?,
+            Err(number) => put(output, &[number, 0, 0])?,
+        }
+        for buffer in [&b.control, &b.frames, &b.pages, &b.ranges] {
+            put(output, &[buffer.len() as u32])?;
+            put(output, buffer)?;
+        }
+        put(output, &unit.to_words())?;
+        output.flush()?;
+    }
+    Ok(())
+}

@@ -1,0 +1,903 @@
+use crate::gen::{generate, Random, Style};
+use crate::plain::{refusals, unit_kept, Plain, PlainUnit};
+use crate::state;
+use crate::tables::{self, judge};
+use crate::text;
+use crate::trace::*;
+use crate::unit::{self, PageEntry, RangeEntry, Rules, Unit, UNIT_WORDS};
+use crate::words::*;
+
+const STYLES: [Style; 5] = [
+    Style::Mixed,
+    Style::Sleep,
+    Style::Fragment,
+    Style::Big,
+    Style::Garbage,
+];
+
+fn encoded(lines: &str) -> Vec<u8> {
+    let mut bytes = Vec::new();
+    text::encode(lines.as_bytes(), &mut bytes).unwrap();
+    bytes
+}
+
+fn decoded(bytes: &[u8]) -> String {
+    let mut lines = Vec::new();
+    text::decode(bytes, &mut lines).unwrap();
+    String::from_utf8(lines).unwrap()
+}
+
+fn listed_by(bytes: &[u8], rules: Rules) -> String {
+    let mut lines = Vec::new();
+    run(bytes, &mut lines, rules).unwrap();
+    String::from_utf8(lines).unwrap()
+}
+
+fn listed(bytes: &[u8]) -> String {
+    listed_by(bytes, Rules::default())
+}
+
+/// The lines of a listing, without header and numbers.
+fn answers(lines: &str) -> Vec<String> {
+    let listing = listed(&encoded(lines));
+    let rows = listing.lines().skip(1);
+    rows.map(|l| l.split_once(' ').unwrap().1.to_string())
+        .collect()
+}
+
+fn last_answer(lines: &str) -> String {
+    answers(lines).pop().unwrap()
+}
+
+/// The core after a text's calls.
+fn core_after(lines: &str) -> Core {
+    let mut core = Core::new(Rules::default());
+    let bytes = encoded(lines);
+    each_record(&bytes[..], &mut core, |_, _| {}, |_, _| Ok(())).unwrap();
+    core
+}
+
+fn generated(seed: u64, n: u64, style: Style) -> Vec<u8> {
+    let mut bytes = Vec::new();
+    generate(seed, n, style, &mut bytes).unwrap();
+    bytes
+}
+
+const LISTING_CALLS: &str = "
+    setup 32
+    open 0
+    map 0 4 11 3
+    translate 0 0 6 1
+    translate 0 0 7 1
+    translate 0 0 6 1
+    unmap 0 6 1
+    translate 0 0 6 1   # no longer mapped
+    translate 0 0 14 1
+    coverage 0
+";
+
+#[test]
+fn listing() {
+    let expected = "record kind answer first second
+1 1 0 0 0
+2 2 0 0 0
+3 4 0 3 0
+4 7 0 2 3
+5 7 0 3 2
+6 7 0 2 1
+7 5 0 1 0
+8 7 12 0 0
+9 7 0 10 3
+10 8 0 8000 0
+";
+    assert_eq!(listed(&encoded(LISTING_CALLS)), expected);
+}
+
+// At the edges.
+
+#[test]
+fn pool_sizes() {
+    assert_eq!(last_answer("setup 0"), "1 4 0 0");
+    assert_eq!(last_answer("setup 1"), "1 0 0 0");
+    assert_eq!(last_answer("setup 4096"), "1 0 0 0");
+    assert_eq!(last_answer("setup 4097"), "1 4 0 0");
+    let b = core_after("setup 6").buffers;
+    let free = [16386, 8192, 8192, 8192, 16385, 8192, 65535, 65535];
+    assert_eq!(b.frames[..8], free);
+    let b = core_after("setup 4096").buffers;
+    for start in [0, 1024, 2048, 3072] {
+        assert_eq!(b.frames[start], 16394);
+    }
+}
+
+#[test]
+fn blocks_taken() {
+    let six = "setup 6\nopen 0\nmap 0 0 5 1\n";
+    assert_eq!(last_answer(six), "4 0 2 0");
+    let b = core_after(six).buffers;
+    assert_eq!(b.frames[..7], [1, 2, 3, 4, 5, 16384, 65535]);
+    let eleven = "setup 32\nopen 0\nmap 0 4 11 3\n";
+    assert_eq!(last_answer(eleven), "4 0 3 0");
+    let b = core_after(eleven).buffers;
+    for i in 0..11 {
+        assert_eq!(frame_of(b.page(0, 4 + i)), i);
+    }
+    assert_eq!(
+        b.frames[11..18],
+        [16384, 16386, 8192, 8192, 8192, 16388, 8192]
+    );
+    assert_eq!(last_answer("setup 6\nopen 0\nmap 0 0 7 1"), "4 14 0 0");
+    assert_eq!(last_answer("setup 6\nopen 0\nmap 0 0 6 1"), "4 0 2 0");
+}
+
+#[test]
+fn spans() {
+    let with = |call: &str| last_answer(&format!("setup 32\nopen 0\n{call}"));
+    assert_eq!(with("map 0 1023 1 1"), "4 0 1 0");
+    assert_eq!(with("map 0 1023 2 1"), "4 8 0 0");
+    assert_eq!(with("map 0 1023 0 1"), "4 8 0 0");
+    assert_eq!(with("map 0 0 0 1"), "4 8 0 0");
+    assert_eq!(with("map 0 65535 65535 1"), "4 8 0 0");
+    assert_eq!(with("unmap 0 0 0"), "5 8 0 0");
+    assert_eq!(with("protect 0 1024 1 1"), "6 8 0 0");
+    assert_eq!(with("translate 0 0 1024 1"), "7 8 0 0");
+}
+
+#[test]
+fn runs_and_ranges() {
+    let table = |maps: &str| {
+        let core = core_after(&format!("setup 32\nopen 0\n{maps}"));
+        core.buffers.space_ranges(0)[..12].to_vec()
+    };
+    assert_eq!(table("map 0 0 7 3"), [0; 12]);
+    assert_eq!(table("map 0 0 8 3"), [0, 8, 0, 3, 0, 0, 0, 0, 0, 0, 0, 0]);
+    let same = "map 0 0 8 3\nmap 0 8 8 3";
+    assert_eq!(table(same), [0, 16, 0, 3, 0, 0, 0, 0, 0, 0, 0, 0]);
+    let differ = "map 0 0 8 3\nmap 0 8 8 1";
+    assert_eq!(table(differ), [0, 8, 0, 3, 8, 16, 0, 1, 0, 0, 0, 0]);
+    // OFFSET goes below zero.
+    let high = "map 0 1000 8 3";
+    let offset = 0u32.wrapping_sub(1000);
+    assert_eq!(table(high)[..4], [1000, 1008, offset, 3]);
+    let calls = format!("setup 32\nopen 0\n{high}\ntranslate 0 0 1001 1\ntranslate 0 0 1007 1");
+    assert_eq!(answers(&calls)[3..], ["7 0 1 3", "7 0 7 2"]);
+}
+
+/// A range and a page in the unit, then so many removal records elsewhere.
+fn slept(records: usize) -> String {
+    let mut lines = String::from(
+        "setup 64\nopen 0\nmap 0 0 16 3\nmap 0 100 1 1\ntranslate 0 0 0 1\ntranslate 1 0 3 1\n",
+    );
+    for _ in 0..records {
+        lines += "protect 0 100 1 1\n";
+    }
+    lines
+}
+
+#[test]
+fn sixty_four_singly_sixty_five_fresh() {
+    let asked = "translate 0 0 0 1\ntranslate 1 0 4 1\n";
+    let woken = |n: usize| answers(&(slept(n) + asked))[6 + n..].to_vec();
+    assert_eq!(woken(63), ["7 0 0 1", "7 0 4 2"]);
+    assert_eq!(woken(64), ["7 0 0 1", "7 0 4 2"]);
+    assert_eq!(woken(65), ["7 0 0 3", "7 0 4 3"]);
+    assert_eq!(woken(200), ["7 0 0 3", "7 0 4 3"]);
+    let unit = core_after(&(slept(65) + asked)).units[0];
+    assert_eq!((unit.last, unit.next, unit.seen), (0, 1, 65));
+    let unit = core_after(&(slept(64) + asked)).units[0];
+    assert_eq!((unit.last, unit.next, unit.seen), (0, 1, 64));
+}
+
+#[test]
+fn refused_translation_stays_behind() {
+    let refused = "translate 0 0 500 1\n".repeat(3);
+    let lines = slept(40) + &refused;
+    assert_eq!(core_after(&lines).units[0].seen, 0);
+    let more = lines + &"protect 0 100 1 1\n".repeat(25) + "translate 0 0 0 1\n";
+    assert_eq!(last_answer(&more), "7 0 0 3");
+}
+
+#[test]
+fn limit_is_not_covered() {
+    let lines = "setup 64\nopen 0\nmap 0 0 8 3\nmap 0 8 1 1\ntranslate 0 0 0 1\n";
+    let asked = |call: &str| last_answer(&format!("{lines}{call}"));
+    assert_eq!(asked("translate 0 0 7 1"), "7 0 7 2");
+    assert_eq!(asked("translate 0 0 8 1"), "7 0 8 3");
+    assert_eq!(asked("translate 0 0 8 2"), "7 13 0 0");
+    assert_eq!(asked("translate 0 0 9 1"), "7 12 0 0");
+}
+
+#[test]
+fn removal_drops_overlapping_ranges() {
+    // The removed page is neither BASE nor translated before.
+    let lines = "setup 64\nopen 0\nmap 0 0 32 3\ntranslate 0 0 0 1\nunmap 0 20 1\n";
+    let core = core_after(&format!("{lines}translate 0 0 1 1"));
+    assert_eq!(last_answer(&format!("{lines}translate 0 0 1 1")), "7 0 1 3");
+    assert_eq!(
+        last_answer(&format!("{lines}translate 0 0 20 1")),
+        "7 12 0 0"
+    );
+    let unit = core.units[0];
+    assert_eq!((unit.last, unit.next), (1, 2));
+    assert_eq!(unit.ranges[0], RangeEntry::default());
+    assert_eq!(unit.ranges[1].limit, 20);
+    assert_eq!(unit.pages[0].valid, 1);
+}
+
+#[test]
+fn merging_keeps_to_buddies_and_pool() {
+    // Frames 1 and 2 are neighbours, not buddies.
+    let b = core_after("setup 4\nopen 0\nmap 0 0 4 1\nunmap 0 1 2").buffers;
+    assert_eq!(b.frames[..5], [1, 16384, 16384, 4, 65535]);
+    // The buddy of 4 (order 1) lies past the pool.
+    let b = core_after("setup 6\nopen 0\nmap 0 0 6 1\nunmap 0 4 2").buffers;
+    assert_eq!(b.frames[4..7], [16385, 8192, 65535]);
+    let b = core_after("setup 6\nopen 0\nmap 0 0 6 1\nclose 0").buffers;
+    assert_eq!(b.frames, core_after("setup 6").buffers.frames);
+}
+
+#[test]
+fn answers_in_order() {
+    let base = "setup 16\nopen 0\nopen 1\nmap 0 0 4 5\nmap 0 8 4 0\n";
+    let asked = |call: &str| last_answer(&format!("{base}{call}"));
+    assert_eq!(asked("open 0"), "2 9 0 0");
+    assert_eq!(asked("open 4"), "2 5 0 0");
+    assert_eq!(asked("close 2"), "3 10 0 0");
+    assert_eq!(asked("close 0"), "3 0 8 0");
+    assert_eq!(asked("close 1"), "3 0 0 0");
+    assert_eq!(asked("map 4 2000 0 8"), "4 5 0 0");
+    assert_eq!(asked("map 2 2000 0 8"), "4 6 0 0");
+    assert_eq!(asked("map 2 2000 0 7"), "4 8 0 0");
+    assert_eq!(asked("map 2 3 1 7"), "4 10 0 0");
+    assert_eq!(asked("map 0 3 100 7"), "4 11 0 0");
+    assert_eq!(asked("map 0 12 9 7"), "4 14 0 0");
+    assert_eq!(asked("unmap 0 3 2"), "5 12 0 0");
+    assert_eq!(asked("protect 0 2 2 5"), "6 0 0 0");
+    assert_eq!(asked("protect 0 2 2 1"), "6 0 2 0");
+    assert_eq!(asked("translate 2 9 2000 3"), "7 16 0 0");
+    assert_eq!(asked("translate 1 9 2000 3"), "7 5 0 0");
+    assert_eq!(asked("translate 1 3 2000 3"), "7 7 0 0");
+    assert_eq!(asked("translate 1 3 2000 4"), "7 8 0 0");
+    assert_eq!(asked("translate 1 3 1 4"), "7 10 0 0");
+    assert_eq!(asked("translate 1 1 1 4"), "7 12 0 0");
+    assert_eq!(asked("translate 1 0 1 2"), "7 13 0 0");
+    assert_eq!(asked("translate 1 0 8 1"), "7 13 0 0");
+    assert_eq!(asked("translate 1 0 1 4"), "7 0 1 3");
+    assert_eq!(asked("coverage 1"), "8 12 0 0");
+    assert_eq!(asked("coverage 2"), "8 10 0 0");
+    assert_eq!(asked("coverage 0"), "8 0 0 0");
+}
+
+// The record file.
+
+#[test]
+fn malformed_records() {
+    let header = "record kind answer first second\n";
+    assert_eq!(listed(&[]), header);
+    let one = |bytes: &[u8]| listed(bytes).strip_prefix(header).unwrap().to_string();
+    assert_eq!(one(&[4]), "1 0 16 0 0\n");
+    assert_eq!(one(&[4, 0]), "1 0 16 0 0\n");
+    assert_eq!(one(&[4, 0, 1, 0, 32]), "1 0 16 0 0\n");
+    assert_eq!(one(&[0, 0]), "1 0 16 0 0\n");
+    assert_eq!(one(&[0, 0, 0]), "1 0 16 0 0\n2 0 16 0 0\n");
+    assert_eq!(one(&[1, 0]), "1 0 16 0 0\n");
+    assert_eq!(one(&[1, 0, 9]), "1 0 16 0 0\n");
+    // A length of 1 skips its byte.
+    let lines = "raw 0100 ff\nsetup 32\nraw 0000\nopen 0";
+    assert_eq!(
+        answers(lines),
+        ["0 16 0 0", "1 0 0 0", "0 16 0 0", "2 0 0 0"]
+    );
+    // Unknown kinds and wrong lengths, odd ones too, show the kind read.
+    let lines = "raw 0200 0000\nraw 0200 0900\nraw 0200 0100\nraw 0500 0100 200000\nopen 0";
+    let expected = ["0 16 0 0", "9 16 0 0", "1 16 0 0", "1 16 0 0", "2 2 0 0"];
+    assert_eq!(answers(lines), expected);
+    // The longest record, whole and cut.
+    let mut long = vec![255, 255, 7, 1];
+    long.resize(2 + 65535, 3);
+    long.extend(encoded("setup 1"));
+    assert_eq!(one(&long), "1 263 16 0 0\n2 1 0 0 0\n");
+    assert_eq!(one(&long[..65536]), "1 0 16 0 0\n");
+}
+
+#[test]
+fn before_the_first_set_up() {
+    let lines = "open 9\nclose 0\nmap 0 0 0 9\nunmap 0 0 1\nprotect 0 0 1 1
+        translate 0 0 0 3\ntranslate 2 0 0 1\ncoverage 0\nsetup 0\nopen 0\nsetup 1\nopen 0";
+    let numbers: Vec<String> = answers(lines)
+        .iter()
+        .map(|l| l.split(' ').nth(1).unwrap().to_string())
+        .collect();
+    assert_eq!(numbers.join(" "), "2 2 2 2 2 2 16 2 4 2 0 0");
+}
+
+#[test]
+fn second_set_up_starts_anew() {
+    let lines = slept(10) + "translate 0 0 0 1\nsetup 0\ntranslate 0 0 0 1\nsetup 16\n";
+    let core = core_after(&lines);
+    let fresh = core_after("setup 16");
+    assert_eq!(core.buffers, fresh.buffers);
+    assert_eq!(core.units, [Unit::fresh(); 2]);
+}
+
+#[test]
+fn text_both_ways() {
+    let lines = "setup 32\nopen 0\nclose 1\nmap 0 4 11 3\nunmap 0 6 1\nprotect 0 4 2 1
+translate 7 0 6 1\ncoverage 65535\nraw 0000\nraw 0100ff\nraw 04000100\n";
+    assert_eq!(decoded(&encoded(lines)), lines);
+    for wrong in [
+        "set 3",
+        "open",
+        "open 0 0",
+        "open 65536",
+        "open -1",
+        "raw 0",
+        "raw 0g",
+    ] {
+        assert!(text::encode(wrong.as_bytes(), &mut Vec::new()).is_err());
+    }
+    let mut random = Random(11);
+    for round in 0..400 {
+        // Small lengths, so that several records come out of random bytes.
+        let bytes: Vec<u8> = (0..random.below(120))
+            .map(|_| match round % 3 {
+                0 => random.next() as u8,
+                _ => random.pick(&[0, 0, 1, 2, 4, 8, 10, 255]),
+            })
+            .collect();
+        assert_eq!(encoded(&decoded(&bytes)), bytes);
+    }
+    for style in STYLES {
+        let bytes = generated(7, 300, style);
+        for end in [bytes.len(), bytes.len() - 1, bytes.len() / 2] {
+            assert_eq!(encoded(&decoded(&bytes[..end])), &bytes[..end]);
+        }
+    }
+}
+
+// The generator.
+
+fn counted(bytes: &[u8]) -> Stats {
+    stats(bytes, Rules::default()).unwrap()
+}
+
+/// FNV-1a.
+fn hash(bytes: &[u8]) -> u64 {
+    bytes.iter().fold(0xcbf2_9ce4_8422_2325, |h, &b| {
+        (h ^ b as u64).wrapping_mul(0x0100_0000_01b3)
+    })
+}
+
+#[test]
+fn generator_is_determined() {
+    let mut all = Vec::new();
+    for style in STYLES {
+        let bytes = generated(3, 400, style);
+        assert_eq!(bytes, generated(3, 400, style));
+        assert_ne!(bytes, generated(4, 400, style));
+        // A longer file begins like the shorter one; only garbage ends cut.
+        if style != Style::Garbage {
+            assert!(generated(3, 500, style).starts_with(&bytes));
+        }
+        assert_eq!(counted(&bytes).records, 400);
+        all.extend(bytes);
+    }
+    assert_eq!(hash(&all), PINNED);
+}
+
+const PINNED: u64 = 17637109391955080577;
+
+#[test]
+fn mixed_reaches_everything() {
+    for seed in 0..6 {
+        let s = counted(&generated(seed, 3000, Style::Mixed));
+        for answer in [0, 2, 4, 5, 6, 7, 8, 9, 10, 11, 12, 13, 14, 16] {
+            assert!(s.answered(answer) > 0, "seed {seed}: no answer {answer}");
+        }
+        // No record file reaches these in a life.
+        for answer in [1, 3, 15] {
+            assert_eq!(s.answered(answer), 0);
+        }
+        assert!(s.ways[1..].iter().all(|&n| n > 0));
+        let share = s.answered(0) * 100 / s.records;
+        assert!((55..=80).contains(&share), "seed {seed}: {share}");
+    }
+}
+
+#[test]
+fn sleep_reaches_its_lengths() {
+    for seed in 0..6 {
+        let s = counted(&generated(seed, 3000, Style::Sleep));
+        for row in 0..3 {
+            assert!(s.behind[row][0] > 0, "seed {seed}: {:?}", s.behind);
+        }
+        assert!(s.behind.iter().map(|row| row[1]).sum::<u64>() > 0);
+        assert!(s.ways[1..].iter().all(|&n| n > 20));
+    }
+}
+
+#[test]
+fn fragment_breaks_pools_up() {
+    for seed in 0..6 {
+        let s = counted(&generated(seed, 2000, Style::Fragment));
+        assert!(s.most_blocks >= 16, "seed {seed}: {}", s.most_blocks);
+        assert!(s.ranges_gained >= 50 && s.ranges_lost >= 50);
+        assert!(s.answers[MAP as usize][14] > 0);
+    }
+}
+
+#[test]
+fn big_is_big() {
+    for seed in 0..6 {
+        let s = counted(&generated(seed, 2000, Style::Big));
+        assert!(s.most_pages >= 1000, "seed {seed}: {}", s.most_pages);
+        assert_eq!(s.most_open, 4);
+        assert!(s.most_ranges >= 16);
+        assert!(s.replaced > 0, "seed {seed}: {}", s.replaced);
+        assert!(s.ways[1..].iter().all(|&n| n > 0));
+    }
+}
+
+#[test]
+fn garbage_is_malformed() {
+    for seed in 0..6 {
+        let bytes = generated(seed, 1000, Style::Garbage);
+        let s = counted(&bytes);
+        assert!(s.answered(16) > 400);
+        assert!(s.answered(0) > 20);
+        // Unknown kinds, known kinds of a wrong length, no kind at all.
+        assert!(s.answers[9][16] > 0 && s.answers[0][16] > 0);
+        assert!((1..=8).any(|kind| s.answers[kind][16] > 0));
+        assert!(listed(&bytes).ends_with(" 0 16 0 0\n"));
+        let mut pieces = Pieces::new(&bytes[..]);
+        let mut cut = false;
+        while let Some(piece) = pieces.next().unwrap() {
+            cut = matches!(piece, Piece::Cut(_));
+        }
+        assert!(cut);
+    }
+}
+
+// Planted bugs.
+
+#[test]
+fn planted_bugs_show() {
+    let right = Rules::default();
+    assert_eq!(Rules::with_bug(""), Some(right));
+    assert_eq!(Rules::with_bug("64"), None);
+    for name in ["65", "limit", "keep"] {
+        let rules = Rules::with_bug(name).unwrap();
+        for seed in 0..4 {
+            let bytes = generated(seed, 4000, Style::Sleep);
+            assert_ne!(listed(&bytes), listed_by(&bytes, rules), "{name} {seed}");
+        }
+    }
+}
+
+// Against the rules written down slowly.
+
+/// Runs a file on the calls and on the plain state; compares values and units,
+/// and all words every few records.
+fn compare(bytes: &[u8], every: usize) {
+    let mut plain = Plain::default();
+    let mut units = [PlainUnit::default(), PlainUnit::default()];
+    let mut core = Core::new(Rules::default());
+    let mut pieces = Pieces::new(bytes);
+    let mut n = 0;
+    while let Some(piece) = pieces.next().unwrap() {
+        let Piece::Whole(bytes) = piece else { break };
+        let Some(call) = Call::read(&bytes[2..]) else {
+            continue;
+        };
+        n += 1;
+        let before = (core.buffers.clone(), core.units);
+        let outcome = core.perform(&call);
+        let args = call.args.map(u32::from);
+        let lowest = refusals(&plain, &call).first().copied();
+        if lowest.is_some() || call.kind != TRANSLATE {
+            assert_eq!(outcome.err(), lowest, "{call:?}");
+        } else {
+            let unit = &mut units[args[0] as usize];
+            assert_eq!(outcome, unit.translate(&plain, args[1], args[2], args[3]));
+            assert!(core.units[args[0] as usize] == unit.words(), "{call:?}");
+            // What is held, no more and no less.
+            let held = plain.held.get(&(args[1], args[2]));
+            let held = held.filter(|h| h.1 & args[3] != 0);
+            assert_eq!(outcome.ok().map(|o| o.0), held.map(|h| h.0));
+        }
+        let Ok((first, second)) = outcome else {
+            assert!((&core.buffers, core.units) == (&before.0, before.1));
+            continue;
+        };
+        let expected = match call.kind {
+            SETUP => {
+                plain.set_up(args[0]);
+                units = Default::default();
+                0
+            }
+            OPEN => {
+                plain.open.insert(args[0]);
+                0
+            }
+            CLOSE => plain.close(args[0]),
+            MAP => plain.map(args[0], args[1], args[2], args[3]).unwrap(),
+            UNMAP => {
+                plain.unmap(args[0], args[1], args[2]);
+                args[2]
+            }
+            PROTECT => plain.protect(args[0], args[1], args[2], args[3]),
+            TRANSLATE => first,
+            COVERAGE => plain.coverage(args[0]),
+            _ => unreachable!(),
+        };
+        assert_eq!(first, expected, "{call:?}");
+        assert!(second == 0 || call.kind == TRANSLATE);
+        if n % every == 0 {
+            assert!(core.buffers == plain.words(), "{call:?}");
+        }
+    }
+}
+
+#[test]
+fn calls_follow_the_rules() {
+    for seed in 20..23 {
+        compare(&generated(seed, 1500, Style::Mixed), 5);
+        compare(&generated(seed, 1500, Style::Sleep), 20);
+        compare(&generated(seed, 1500, Style::Fragment), 5);
+        compare(&generated(seed, 200, Style::Big), 10);
+        compare(&generated(seed, 1000, Style::Garbage), 20);
+    }
+}
+
+/// A state in the middle of a generated file.
+fn some_core(seed: u64, n: u64, style: Style) -> Core {
+    let mut core = Core::new(Rules::default());
+    let bytes = generated(seed, n, style);
+    each_record(&bytes[..], &mut core, |_, _| {}, |_, _| Ok(())).unwrap();
+    core
+}
+
+/// Alters a word a little or to something telling.
+fn disturb(random: &mut Random, word: &mut u32) {
+    let near = [word.wrapping_add(1), word.wrapping_sub(1)];
+    let bit = *word ^ 1 << random.below(18);
+    let telling = [
+        0,
+        1,
+        3,
+        4,
+        15,
+        16,
+        1023,
+        1024,
+        4096,
+        4097,
+        8191,
+        8192,
+        16384,
+        16385,
+        16394,
+        16395,
+        65535,
+        65536,
+        98304,
+        131071,
+        131072,
+        u32::MAX,
+    ];
+    *word = match random.below(4) {
+        0 => random.pick(&near),
+        1 | 2 => bit,
+        _ => random.pick(&telling),
+    };
+}
+
+#[test]
+fn soundness_is_exact() {
+    let mut random = Random(99);
+    let mut sound = 0;
+    let mut core = Core::new(Rules::default());
+    for round in 0..1200u64 {
+        if round % 40 == 0 {
+            core = some_core(round, 120 + round / 8, STYLES[(round / 40 % 4) as usize]);
+        }
+        let mut b = core.buffers.clone();
+        assert!(judge(&b).is_ok());
+        for _ in 0..random.among(1, 2) {
+            let buffer = match random.below(4) {
+                0 => &mut b.control,
+                1 => &mut b.frames,
+                2 => &mut b.pages,
+                _ => &mut b.ranges,
+            };
+            // Often among the words in use.
+            let used: Vec<usize> = (0..buffer.len()).filter(|&i| buffer[i] != 0).collect();
+            let at = match used.is_empty() || random.one_in(3) {
+                true => random.below(buffer.len() as u64) as usize,
+                false => random.pick(&used),
+            };
+            let from = random.below(buffer.len() as u64) as usize;
+            match random.one_in(5) {
+                true => buffer[at] = buffer[from],
+                false => disturb(&mut random, &mut buffer[at]),
+            }
+        }
+        let expected = Plain::read(&b).is_some();
+        assert_eq!(judge(&b).is_ok(), expected, "round {round}");
+        sound += expected as u32;
+    }
+    assert!(sound > 20, "{sound}");
+}
+
+#[test]
+fn unit_layout_is_exact() {
+    let mut random = Random(5);
+    let mut kept = 0;
+    let mut core = Core::new(Rules::default());
+    for round in 0..3000u64 {
+        if round % 100 == 0 {
+            core = some_core(round, 400, STYLES[(round / 100 % 4) as usize]);
+        }
+        let mut words = [0; UNIT_WORDS];
+        words.copy_from_slice(&core.units[0].to_words());
+        assert_eq!(Unit::from_words(&words), core.units[0]);
+        assert!(core.units[0].sound());
+        for _ in 0..random.among(1, 2) {
+            let at = match random.below(3) {
+                0 => random.below(320),
+                1 => 320 + random.below(30),
+                _ => 512 + random.below(3),
+            } as usize;
+            disturb(&mut random, &mut words[at]);
+        }
+        let unit = Unit::from_words(&words);
+        assert_eq!(unit.sound(), unit_kept(&unit), "round {round}");
+        kept += unit.sound() as u32;
+    }
+    assert!((100..2900).contains(&kept), "{kept}");
+}
+
+#[test]
+fn range_entry_edges() {
+    let kept = |base: u32, limit: u32, offset: u32| {
+        let mut unit = Unit::fresh();
+        unit.ranges[31] = RangeEntry {
+            valid: 1,
+            space: 3,
+            base,
+            limit,
+            offset,
+            rights: 7,
+        };
+        assert_eq!(unit.sound(), unit_kept(&unit));
+        unit.sound()
+    };
+    let minus = |n: u32| 0u32.wrapping_sub(n);
+    assert!(kept(0, 1024, 3072));
+    assert!(!kept(0, 1024, 3073));
+    assert!(kept(1023, 1024, 3072));
+    assert!(!kept(1023, 1024, 3073));
+    assert!(kept(10, 1024, minus(10)));
+    assert!(!kept(10, 1024, minus(11)));
+    assert!(!kept(9, 1024, minus(10)));
+    assert!(!kept(0, 1025, 0));
+    assert!(!kept(5, 5, 0));
+    assert!(!kept(6, 5, 0));
+    assert!(kept(4, 5, 0));
+}
+
+// Calls on lent words.
+
+#[test]
+fn lengths_come_first() {
+    let core = core_after(&slept(3));
+    for which in 0..4 {
+        for change in [-1i32, 1, -10_000] {
+            let mut b = core.buffers.clone();
+            b.control[0] = 0;
+            let buffer = match which {
+                0 => &mut b.control,
+                1 => &mut b.frames,
+                2 => &mut b.pages,
+                _ => &mut b.ranges,
+            };
+            let length = (buffer.len() as i32 + change).max(0) as usize;
+            buffer.resize(length, 0);
+            let lent = b.clone();
+            for command in 1..=8 {
+                let mut unit = core.units[0];
+                unit.next = 99;
+                let before = unit;
+                let args = [9, 5000, 0, 9];
+                let outcome = state::perform(command, &mut b, &mut unit, args, &Rules::default());
+                assert_eq!(outcome, Some(Err(1)));
+                assert!(b == lent && unit == before);
+            }
+        }
+    }
+}
+
+#[test]
+fn unit_refusals() {
+    let core = core_after(&slept(3));
+    let b = &core.buffers;
+    let ask = |unit: &mut Unit, args: [u32; 3]| {
+        unit::translate(b, unit, args[0], args[1], args[2], &Rules::default())
+    };
+    let mut unit = core.units[0];
+    unit.seen = 4;
+    assert_eq!(ask(&mut unit, [9, 0, 1]), Err(3));
+    unit.next = 32;
+    assert_eq!(ask(&mut unit, [9, 0, 1]), Err(2));
+    // Set up unit takes any unit.
+    assert_eq!(unit::set_up_unit(&mut unit), Ok((0, 0)));
+    assert_eq!(unit, Unit::fresh());
+    unit.last = 0;
+    assert_eq!(ask(&mut unit, [0, 0, 1]), Err(2));
+    // An all-zero unit names an invalid entry as last used.
+    let mut unit = Unit::from_words(&[0; UNIT_WORDS]);
+    assert_eq!(ask(&mut unit, [0, 0, 1]), Err(2));
+    // An entry in force decides, its right too.
+    let mut unit = Unit::fresh();
+    unit.pages[5] = PageEntry {
+        valid: 1,
+        space: 0,
+        page: 5,
+        frame: 4095,
+        rights: 4,
+    };
+    unit.seen = 3;
+    assert_eq!(ask(&mut unit, [0, 5, 1]), Err(13));
+    assert_eq!(ask(&mut unit, [0, 5, 4]), Ok((4095, 1)));
+    assert_eq!(ask(&mut unit, [u32::MAX, 5, 4]), Err(5));
+    assert_eq!(ask(&mut unit, [0, u32::MAX, 4]), Err(8));
+    assert_eq!(ask(&mut unit, [0, 5, u32::MAX]), Err(7));
+    // Last used is tried first, then ascending.
+    let entry = |base, rights| RangeEntry {
+        valid: 1,
+        space: 0,
+        base,
+        limit: 50,
+        offset: 100 * rights,
+        rights,
+    };
+    let mut unit = Unit::fresh();
+    unit.seen = 3;
+    unit.ranges[3] = entry(20, 1);
+    unit.ranges[4] = entry(10, 2);
+    unit.ranges[5] = entry(20, 4);
+    unit.last = 5;
+    assert_eq!(ask(&mut unit.clone(), [0, 20, 4]), Ok((420, 2)));
+    assert_eq!(ask(&mut unit.clone(), [0, 20, 1]), Err(13));
+    assert_eq!(ask(&mut unit, [0, 10, 2]), Ok((210, 2)));
+    assert_eq!(unit.last, 4);
+    unit.last = 32;
+    assert_eq!(ask(&mut unit, [0, 30, 1]), Ok((130, 2)));
+    assert_eq!(unit.last, 3);
+}
+
+#[test]
+fn the_log_ends() {
+    let mut b = core_after(&slept(64)).buffers;
+    b.control[1] = u32::MAX - 1;
+    assert_eq!(tables::protect(&mut b, 0, 100, 1, 7), Ok((1, 0)));
+    assert_eq!(b.removals(), u32::MAX);
+    let at = 3 + 3 * 63;
+    assert_eq!(b.control[at..at + 3], [0, 100, 1]);
+    let lent = b.clone();
+    assert_eq!(tables::protect(&mut b, 0, 100, 1, 1), Err(15));
+    assert_eq!(tables::unmap(&mut b, 0, 100, 1), Err(15));
+    assert_eq!(tables::close(&mut b, 0), Err(15));
+    assert_eq!(tables::unmap(&mut b, 0, 101, 1), Err(12));
+    assert_eq!(tables::close(&mut b, 1), Err(10));
+    assert_eq!(b, lent);
+    assert_eq!(tables::map(&mut b, 0, 101, 1, 1), Ok((1, 0)));
+    // A unit far behind, and one that has seen nearly all.
+    let mut unit = Unit::fresh();
+    let rules = Rules::default();
+    assert_eq!(unit::translate(&b, &mut unit, 0, 0, 1, &rules), Ok((0, 3)));
+    assert_eq!(unit.seen, u32::MAX);
+    unit.seen = u32::MAX - 64;
+    assert_eq!(unit::translate(&b, &mut unit, 0, 0, 1, &rules), Ok((0, 1)));
+    // A span that would wrap.
+    let mut c = b.clone();
+    assert_eq!(tables::map(&mut c, 0, u32::MAX, 2, 1), Err(8));
+    assert_eq!(tables::map(&mut c, 0, 2, u32::MAX, 1), Err(8));
+    assert_eq!(b, c);
+}
+
+#[test]
+fn refusals_leave_all_as_it_was() {
+    let mut random = Random(41);
+    let mut numbers = [0; 17];
+    let mut core = Core::new(Rules::default());
+    for round in 0..1500u64 {
+        if round % 60 == 0 {
+            core = some_core(round, 300, STYLES[(round / 60 % 4) as usize]);
+        }
+        let mut b = core.buffers.clone();
+        let mut unit = core.units[0];
+        if random.one_in(3) {
+            let at = random.below(4096) as usize;
+            disturb(&mut random, &mut b.pages[at]);
+        }
+        if random.one_in(4) {
+            unit.seen = random.below(200) as u32;
+        }
+        let command = 1 + random.below(9) as u32;
+        let mut arg = |good: u64| match random.one_in(8) {
+            true => random.pick(&[0, 4, 8, 1023, 1024, 4096, u32::MAX]),
+            false => random.below(good) as u32,
+        };
+        let args = match command {
+            7 => [arg(4), arg(200), 1 << arg(3).min(20), 0],
+            _ => [arg(4), arg(200), arg(9), arg(8)],
+        };
+        let lent = (b.clone(), unit);
+        let outcome = state::perform(command, &mut b, &mut unit, args, &Rules::default()).unwrap();
+        match outcome {
+            Err(number) => {
+                numbers[number as usize] += 1;
+                assert!((&b, unit) == (&lent.0, lent.1));
+            }
+            Ok(_) if command == 9 => assert!(b == lent.0 && unit == Unit::fresh()),
+            Ok(_) => assert!(Plain::read(&b).is_some()),
+        }
+    }
+    for number in [2, 3, 5, 8, 10, 12] {
+        assert!(numbers[number] > 0, "{numbers:?}");
+    }
+}
+
+#[test]
+fn protocol() {
+    let core = core_after(&slept(3));
+    let mut input: Vec<u32> = Vec::new();
+    let mut ask = |command: u32, b: &Buffers, unit: &Unit, args: [u32; 4]| {
+        input.push(command);
+        for buffer in [&b.control, &b.frames, &b.pages, &b.ranges] {
+            input.push(buffer.len() as u32);
+            input.extend(buffer);
+        }
+        input.extend(unit.to_words());
+        input.extend(args);
+    };
+    let empty = Buffers {
+        control: vec![],
+        frames: vec![7],
+        pages: vec![],
+        ranges: vec![1, 2],
+    };
+    ask(7, &core.buffers, &core.units[0], [0, 1, 2, 0]);
+    ask(9, &empty, &core.units[0], [0; 4]);
+    ask(2, &empty, &core.units[0], [0; 4]);
+    ask(1, &core.buffers, &core.units[0], [77, 0, 0, 0]);
+    let bytes: Vec<u8> = input.iter().flat_map(|w| w.to_le_bytes()).collect();
+    let mut output = Vec::new();
+    state::serve(&mut &bytes[..], &mut output, &Rules::default()).unwrap();
+
+    let mut expected: Vec<u32> = Vec::new();
+    let mut answer = |values: [u32; 3], b: &Buffers, unit: &Unit| {
+        expected.extend(values);
+        for buffer in [&b.control, &b.frames, &b.pages, &b.ranges] {
+            expected.push(buffer.len() as u32);
+            expected.extend(buffer);
+        }
+        expected.extend(unit.to_words());
+    };
+    let after = core_after(&(slept(3) + "translate 0 0 1 2"));
+    answer([0, 1, 2], &core.buffers, &after.units[0]);
+    answer([0, 0, 0], &empty, &Unit::fresh());
+    answer([1, 0, 0], &empty, &core.units[0]);
+    let set_up = core_after("setup 77").buffers;
+    answer([0, 0, 0], &set_up, &core.units[0]);
+    let expected: Vec<u8> = expected.iter().flat_map(|w| w.to_le_bytes()).collect();
+    assert_eq!(output, expected);
+
+    // Cut input and unknown commands fail.
+    let cut = &bytes[..bytes.len() - 1];
+    assert!(state::serve(&mut &cut[..], &mut Vec::new(), &Rules::default()).is_err());
+    let mut unknown = bytes.clone();
+    unknown[0] = 10;
+    assert!(state::serve(&mut &unknown[..], &mut Vec::new(), &Rules::default()).is_err());
+}

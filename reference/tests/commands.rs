@@ -1,0 +1,140 @@
+//! The commands of the built program.
+
+use std::io::Write;
+use std::process::{Command, Output, Stdio};
+
+fn reference(args: &[&str], bug: Option<&str>, input: &[u8]) -> Output {
+    let mut command = Command::new(env!("CARGO_BIN_EXE_reference"));
+    command.args(args).env_remove("REFERENCE_BUG");
+    if let Some(bug) = bug {
+        command.env("REFERENCE_BUG", bug);
+    }
+    let mut child = command
+        .stdin(Stdio::piped())
+        .stdout(Stdio::piped())
+        .stderr(Stdio::piped())
+        .spawn()
+        .unwrap();
+    let mut stdin = child.stdin.take().unwrap();
+    let input = input.to_vec();
+    let feeder = std::thread::spawn(move || {
+        // The program may end before it has read everything.
+        let _ = stdin.write_all(&input);
+    });
+    let output = child.wait_with_output().unwrap();
+    feeder.join().unwrap();
+    output
+}
+
+fn good(args: &[&str], input: &[u8]) -> Vec<u8> {
+    let output = reference(args, None, input);
+    assert!(output.status.success(), "{args:?}");
+    output.stdout
+}
+
+#[test]
+fn listing_through_encode() {
+    let calls = "setup 32\nopen 0\nmap 0 4 11 3
+translate 0 0 6 1\ntranslate 0 0 7 1\ntranslate 0 0 6 1
+unmap 0 6 1\ntranslate 0 0 6 1\ntranslate 0 0 14 1\ncoverage 0\n";
+    let records = good(&["encode"], calls.as_bytes());
+    assert_eq!(good(&["decode"], &records), calls.as_bytes());
+    let listing = String::from_utf8(good(&["run"], &records)).unwrap();
+    let expected = "record kind answer first second
+1 1 0 0 0
+2 2 0 0 0
+3 4 0 3 0
+4 7 0 2 3
+5 7 0 3 2
+6 7 0 2 1
+7 5 0 1 0
+8 7 12 0 0
+9 7 0 10 3
+10 8 0 8000 0
+";
+    assert_eq!(listing, expected);
+}
+
+#[test]
+fn empty_input() {
+    assert_eq!(good(&["run"], b""), b"record kind answer first second\n");
+    assert_eq!(good(&["encode"], b""), b"");
+    assert_eq!(good(&["decode"], b""), b"");
+    assert_eq!(good(&["state"], b""), b"");
+    assert!(good(&["stats"], b"").starts_with(b"records 0\nanswer_0 0\n"));
+}
+
+#[test]
+fn wrong_use() {
+    for args in [
+        &["walk"][..],
+        &[],
+        &["gen", "1", "2", "wild"],
+        &["gen", "x", "2", "big"],
+        &["bench", "/nowhere/at/all"],
+    ] {
+        assert!(!reference(args, None, b"").status.success(), "{args:?}");
+    }
+    assert!(!reference(&["encode"], None, b"jump 3").status.success());
+    assert!(!reference(&["run"], Some("other"), b"").status.success());
+}
+
+#[test]
+fn planted_bugs_turn_the_listing() {
+    let records = good(&["gen", "2", "4000", "sleep"], b"");
+    let right = good(&["run"], &records);
+    assert_eq!(reference(&["run"], Some(""), &records).stdout, right);
+    for bug in ["65", "limit", "keep"] {
+        let wrong = reference(&["run"], Some(bug), &records);
+        assert!(wrong.status.success());
+        assert_ne!(wrong.stdout, right, "{bug}");
+    }
+}
+
+#[test]
+fn planted_bug_turns_the_state() {
+    // A pool of 8 frames, space 0 open and empty, one record appended.
+    let mut words: Vec<u32> = vec![7];
+    let mut control = vec![0; 195];
+    control[..3].copy_from_slice(&[8, 1, 1]);
+    control[6..9].copy_from_slice(&[0, 0, 1]);
+    let mut frames = vec![65535; 4096];
+    frames[..8].fill(8192);
+    frames[0] = 16387;
+    for buffer in [control, frames, vec![0; 4096], vec![0; 2048]] {
+        words.push(buffer.len() as u32);
+        words.extend(buffer);
+    }
+    let mut unit = vec![0; 515];
+    unit[512] = 32;
+    words.extend(unit);
+    words.extend([0, 5, 1, 0]);
+    let bytes: Vec<u8> = words.iter().flat_map(|w| w.to_le_bytes()).collect();
+    let right = good(&["state"], &bytes);
+    let wrong = reference(&["state"], Some("keep"), &bytes).stdout;
+    assert_eq!(right[..12], wrong[..12]);
+    assert_eq!(right[0], 12);
+    // Only the number of records seen differs.
+    let end = right.len() - 4;
+    assert_eq!(right[..end], wrong[..end]);
+    assert_eq!(
+        (&right[end..], &wrong[end..]),
+        (&[0; 4][..], &[1, 0, 0, 0][..])
+    );
+}
+
+#[test]
+fn bench_lines() {
+    let dir = std::env::temp_dir();
+    let file = dir.join(format!("reference-bench-{}", std::process::id()));
+    std::fs::write(&file, good(&["gen", "1", "200", "mixed"], b"")).unwrap();
+    let name = file.to_str().unwrap();
+    let lines = String::from_utf8(good(&["bench", "-k", "2", name, name], b"")).unwrap();
+    std::fs::remove_file(&file).unwrap();
+    assert_eq!(lines.lines().count(), 2);
+    for line in lines.lines() {
+        let parts: Vec<&str> = line.split(' ').collect();
+        assert_eq!(parts[..2], [name, "200"]);
+        assert!(parts[2].parse::<f64>().unwrap() > 0.0);
+    }
+}
