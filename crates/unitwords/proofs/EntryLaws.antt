@@ -1,0 +1,130 @@
+-- Entries read from words and written into them, one entry more.
+use mathlib.Core.Path.{_≡_, refl, ap, _∙_, sym}
+use mathlib.Core.List.{List, [], _∷_, _++_, append-assoc, append-nil}
+use Prim.Native.Nat.{ℕ, zero, suc, _+_, _-_, _*_, _<_, _≤_}
+use native.Mathlib.Nat.{zero-add, add-zero, mul-zero, mul-suc}
+use native.Mathlib.Numerals.{add-one}
+use native.Mathlib.Omega.{arith}
+use lib.ListN.{length, getD, set, take, drop, length-append, drop-of-length-le}
+use lib.Seq.{take-suc, take-all, drop-cons, drop-drop, take-at, drop-at, set-at, sets, sets-eq, length-take-le}
+use Rattle.words.specs.Tables.{tabFrom, tabulate}
+use Rattle.words.proofs.TableLaws.{length-tabulate}
+use Rattle.history.specs.declared.PageEntry.{PageEntry}
+use Rattle.history.specs.declared.RangeEntry.{RangeEntry}
+use Rattle.history.specs.declared.Unit.{Unit as TlbUnit}
+use Rattle.catching.specs.Entries.{withPages, withRanges}
+use Rattle.unitwords.specs.UnitWords.{pageAt, rangeAt, unitOf, pageWords, rangeWords, lastWords, joined, wordsOf}
+
+-- past the end of a list
+none-left : {A : Type 0} (l : List A) (n : ℕ) → length l ≤ n → drop n l ≡ []
+none-left l n h = drop-of-length-le l h
+
+-- words stored over all places of a list
+pub put-all : (vs xs : List ℕ) → length xs ≡ length vs → sets xs 0 vs ≡ vs
+put-all vs xs e =
+    let z : 0 + length vs ≡ length vs = omega arith in
+    sets-eq vs xs 0 (omega arith) ∙ rw (z, none-left xs (length vs) (omega arith)) (append-nil vs)
+
+-- a table, one entry more
+tab-more : {A : Type 0} (n i : ℕ) (f : ℕ → A) → tabFrom (suc n) i f ≡ tabFrom n i f ++ (f (i + n) ∷ [])
+unfolding tabFrom
+tab-more zero i f = rw (add-zero i)
+tab-more (suc n) i f =
+    let e : suc i + n ≡ i + suc n = omega arith in
+    ap (λ (l : List _). f i ∷ l) (tab-more n (suc i) f ∙ ap (λ (k : ℕ). tabFrom n (suc i) f ++ (f k ∷ [])) e)
+
+-- a list of which the first n entries are those of a table
+unfoldable pub tabledTo : {A : Type 0} → (ℕ → A) → ℕ → List A → List A
+tabledTo f n l = tabulate n f ++ drop n l
+
+module _ {A : Type 0} (f : ℕ → A) (l : List A) where
+  pub none-tabled : l ≡ tabledTo f 0 l
+  unfolding tabledTo tabulate tabFrom
+  none-tabled = refl
+
+  pub one-tabled : (n : ℕ) (d : A) → n < length l → set (tabledTo f n l) n (f n) ≡ tabledTo f (n + 1) l
+  unfolding tabledTo tabulate
+  one-tabled n d h =
+      let s : n + 1 ≡ suc n = omega arith in
+      rw (drop-cons l n d h, set-at (tabulate n f) (getD l n d) (drop (suc n) l) (f n) n (length-tabulate n f), s, tab-more n 0 f, zero-add n, append-assoc (tabFrom n 0 f) (f n ∷ []) (drop (suc n) l))
+
+  pub all-tabled : (n k : ℕ) → k ≡ n → length l ≡ n → tabledTo f k l ≡ tabulate n f
+  unfolding tabledTo
+  all-tabled n k e h = rw (e, none-left l n (omega arith)) (append-nil (tabulate n f))
+
+-- one entry more in a unit
+pub next-page : (f : ℕ → PageEntry) (u v : TlbUnit) (n : ℕ) (e d : PageEntry) → v ≡ withPages u (tabledTo f n (u .pages)) → n < length (u .pages) → e ≡ f n
+    → withPages v (set (v .pages) n e) ≡ withPages u (tabledTo f (n + 1) (u .pages))
+next-page f u v n e d sofar h is = rw (sofar, is) (ap (withPages u) (one-tabled f (u .pages) n d h))
+
+pub next-range : (f : ℕ → RangeEntry) (u v : TlbUnit) (n : ℕ) (e d : RangeEntry) → v ≡ withRanges u (tabledTo f n (u .ranges)) → n < length (u .ranges) → e ≡ f n
+    → withRanges v (set (v .ranges) n e) ≡ withRanges u (tabledTo f (n + 1) (u .ranges))
+next-range f u v n e d sofar h is = rw (sofar, is) (ap (withRanges u) (one-tabled f (u .ranges) n d h))
+
+-- a list over which the words of the first n entries are written, m words each
+unfoldable pub writtenTo : {A : Type 0} → (A → List ℕ) → ℕ → ℕ → List A → List ℕ → List ℕ
+writtenTo f m n l b = joined f (take n l) ++ drop (m * n) b
+
+module _ {A : Type 0} (f : A → List ℕ) where
+  joined-append : (xs ys : List A) → joined f (xs ++ ys) ≡ joined f xs ++ joined f ys
+  unfolding joined
+  joined-append [] ys = refl
+  joined-append (x ∷ xs) ys = ap (λ (l : List ℕ). f x ++ l) (joined-append xs ys) ∙ sym (append-assoc (f x) (joined f xs) (joined f ys))
+
+  joined-more : (l : List A) (n : ℕ) (d : A) → n < length l → joined f (take (suc n) l) ≡ joined f (take n l) ++ f (getD l n d)
+  unfolding joined
+  joined-more l n d h = rw (take-suc l n d h, joined-append (take n l) (getD l n d ∷ []), append-nil (f (getD l n d)))
+
+  module _ (m : ℕ) (each : (x : A) → length (f x) ≡ m) where
+    length-joined : (l : List A) → length (joined f l) ≡ m * length l
+    unfolding joined
+    length-joined [] = sym (mul-zero m)
+    length-joined (x ∷ xs) =
+        let e : length (f x) ≡ m = each x in
+        let r : length (joined f xs) ≡ m * length xs = length-joined xs in
+        length-append (f x) (joined f xs) ∙ omega (arith, mul-suc m (length xs))
+
+    module _ (l : List A) (b : List ℕ) where
+      pub none-written : b ≡ writtenTo f m 0 l b
+      unfolding writtenTo joined
+      none-written = rw (mul-zero m)
+
+      pub one-written : (n at k : ℕ) (d e : A) (w ws : List ℕ) → n < length l → at ≡ m * n → k ≡ m → w ≡ writtenTo f m n l b → e ≡ getD l n d → ws ≡ f e
+          → take at w ++ (ws ++ drop k (drop at w)) ≡ writtenTo f m (n + 1) l b
+      unfolding writtenTo
+      one-written n at k d e w ws h place size sofar is said =
+          let s : n + 1 ≡ suc n = omega arith in
+          let long : length (joined f (take n l)) ≡ m * n = length-joined (take n l) ∙ ap (λ (x : ℕ). m * x) (length-take-le n l (omega arith)) in
+          rw (place, size, sofar, said, is, take-at (joined f (take n l)) (drop (m * n) b) (m * n) long, drop-at (joined f (take n l)) (drop (m * n) b) (m * n) long, s, joined-more l n d h, mul-suc m n, drop-drop m (m * n) b)
+          (sym (append-assoc (joined f (take n l)) (f (getD l n d)) (drop (m * n + m) b)))
+
+      pub all-written : (n k : ℕ) → k ≡ n → length l ≡ n → length b ≡ m * n → writtenTo f m k l b ≡ joined f l
+      unfolding writtenTo
+      all-written n k z e g = rw (z, take-all n l (omega arith), none-left b (m * n) (omega arith)) (append-nil (joined f l))
+
+-- the page entries, the range entries and the rest, read
+pub read-all : (ws : List ℕ) (x y v : TlbUnit) → y ≡ withPages x (tabulate 64 (pageAt ws)) → v ≡ withRanges y (tabulate 32 (rangeAt ws))
+    → record { pages = v .pages; ranges = v .ranges; last = getD ws 512 0; next = getD ws 513 0; seen = getD ws 514 0 } ≡ unitOf ws
+unfolding unitOf
+read-all ws x y v e g = rw (g, e)
+
+-- a list with ys written over the n words from place a on
+abbrev over : ℕ → ℕ → List ℕ → List ℕ → List ℕ
+over a n xs ys = take a xs ++ (ys ++ drop n (drop a xs))
+
+-- three lists that fill a list, written one after another
+in-three : (xs p r t : List ℕ) → length xs ≡ 515 → length p ≡ 320 → length r ≡ 192 → over 512 3 (over 320 192 (over 0 320 xs p) r) t ≡ p ++ (r ++ t)
+in-three xs p r t ex ep er =
+    let long : length (p ++ r) ≡ 512 = length-append p r ∙ omega arith in
+    let mid : over 320 192 (over 0 320 xs p) r ≡ (p ++ r) ++ drop 512 xs =
+    rw (take-at p (drop 320 xs) 320 ep, drop-at p (drop 320 xs) 320 ep, drop-drop 192 320 xs) (sym (append-assoc p r (drop 512 xs))) in
+    rw (mid, take-at (p ++ r) (drop 512 xs) 512 long, drop-at (p ++ r) (drop 512 xs) 512 long, drop-drop 3 512 xs, none-left xs 515 (omega arith), append-nil t) (append-assoc p r t)
+
+-- the words of a unit, written part by part
+pub write-all : (xs p r t : List ℕ) (u : TlbUnit) → length xs ≡ 515 → length (u .pages) ≡ 64 → length (u .ranges) ≡ 32 → p ≡ joined pageWords (u .pages) → r ≡ joined rangeWords (u .ranges) → t ≡ lastWords u
+    → over 512 3 (over 320 192 (over 0 320 xs p) r) t ≡ wordsOf u
+unfolding wordsOf
+write-all xs p r t u ex ps rs ep er et =
+    let lp : length p ≡ 320 = rw ep (length-joined pageWords 5 (λ x. refl) (u .pages) ∙ ap (λ (n : ℕ). 5 * n) ps) in
+    let lr : length r ≡ 192 = rw er (length-joined rangeWords 6 (λ x. refl) (u .ranges) ∙ ap (λ (n : ℕ). 6 * n) rs) in
+    in-three xs p r t ex lp lr ∙ rw (ep, er, et)

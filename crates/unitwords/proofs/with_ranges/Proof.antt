@@ -1,0 +1,64 @@
+use Rattle.unitwords.proofs.EntryLaws.{tabledTo, none-tabled, all-tabled, next-range}
+use Rattle.unitwords.specs.UnitWords.{rangeAt}
+use Rattle.catching.specs.Entries.{withRanges}
+use Rattle.history.specs.Units.{noRange}
+use lib.ListN.{length, length-map}
+use native.Mathlib.Omega.{arith}
+use Prim.Native.Nat.{_≤_, _-_}
+use mathlib.Core.Path.{_≡_, refl, ap, _∙_}
+use borrow.Author.Needs.{needs}
+use Rattle.unitwords.proofs.with_ranges.Statement.{statement}
+use Rattle.unitwords.proofs.with_ranges.Tie as tie
+
+abbrev Inv-loop : tie.InvT-loop
+Inv-loop words v₀ k₀ v k = (k ≤ 32) × ((length (v₀ .ranges) ≡ 32) × (v ≡ withRanges v₀ (tabledTo (rangeAt words) k (v₀ .ranges))))
+
+abbrev μ-loop : tie.MeasureT-loop
+μ-loop words v₀ k₀ v k = 32 - k
+
+-- src/lib.rt:64:5
+loop-holds : tie.Need-loop-holds Inv-loop μ-loop
+loop-holds c = (omega arith, (rw length-map at (c .before .good .0 .1 .1 .1 .0 .1 .0 .1), ap (withRanges (c .before .args .u)) (none-tabled _ _)))
+
+-- src/lib.rt:65:13
+range-at-requires : tie.Need-range-at-requires Inv-loop μ-loop
+range-at-requires c κs = search needs
+
+-- src/lib.rt:66:9
+mul-e : tie.Need-mul-e Inv-loop μ-loop
+mul-e c = search needs
+
+-- src/lib.rt:66:9
+element-set-from-e : tie.Need-element-set-from-e Inv-loop μ-loop
+element-set-from-e c = search needs
+
+-- src/lib.rt:64:9
+add-k : tie.Need-add-k Inv-loop μ-loop
+add-k c = search needs
+
+-- src/lib.rt:64:5
+loop-less : tie.Need-loop-less Inv-loop μ-loop
+loop-less c = search needs
+
+-- src/lib.rt:64:5
+loop-again : tie.Need-loop-again Inv-loop μ-loop
+loop-again c = (omega arith, (c .before .before .loop .inv .1 .0, next-range _ _ _ _ _ noRange (c .before .before .loop .inv .1 .1) (omega arith) (c .range-at .ensures)))
+
+-- src/lib.rt:59:1
+returns : tie.Need-returns Inv-loop μ-loop
+returns c = c .before .loop .inv .1 .1 ∙ ap (withRanges (c .before .before .before .args .u)) (all-tabled _ _ 32 _ (omega arith) (c .before .loop .inv .1 .0))
+
+pub with-ranges-spec : {M : Type 1} → statement M
+with-ranges-spec =
+    tie.close
+    (tie.spec
+    Inv-loop
+    μ-loop
+    loop-holds
+    range-at-requires
+    mul-e
+    element-set-from-e
+    add-k
+    loop-less
+    loop-again
+    returns)

@@ -1,0 +1,53 @@
+-- A unit as 515 words. Document 01, What the host lends: "64 page entries (valid, space, page, frame, rights ..), 32 range entries (valid, space, BASE, LIMIT, OFFSET, rights), the last used range entry (32 = none), the next place to replace (0 to 31), and the number of records seen."
+use mathlib.Core.List.{List, [], _∷_, _++_}
+use Prim.Native.Nat.{ℕ, _+_, _*_}
+use lib.ListN.{getD}
+use Rattle.words.specs.Tables.{tabulate}
+use Rattle.history.specs.declared.PageEntry.{PageEntry}
+use Rattle.history.specs.declared.RangeEntry.{RangeEntry}
+use Rattle.history.specs.declared.Unit.{Unit as TlbUnit}
+
+-- page entry k is five words from word 5 k on
+unfoldable pub pageAt : List ℕ → ℕ → PageEntry
+pageAt ws k =
+    record {
+      valid = getD ws (5 * k) 0;
+      space = getD ws (5 * k + 1) 0;
+      page = getD ws (5 * k + 2) 0;
+      frame = getD ws (5 * k + 3) 0;
+      rights = getD ws (5 * k + 4) 0;
+    }
+
+-- range entry k is six words from word 320 + 6 k on
+unfoldable pub rangeAt : List ℕ → ℕ → RangeEntry
+rangeAt ws k =
+    record {
+      valid = getD ws (320 + 6 * k) 0;
+      space = getD ws (320 + 6 * k + 1) 0;
+      base = getD ws (320 + 6 * k + 2) 0;
+      limit = getD ws (320 + 6 * k + 3) 0;
+      offset = getD ws (320 + 6 * k + 4) 0;
+      rights = getD ws (320 + 6 * k + 5) 0;
+    }
+
+-- the unit that 515 words are
+unfoldable pub unitOf : List ℕ → TlbUnit
+unitOf ws = record { pages = tabulate 64 (pageAt ws); ranges = tabulate 32 (rangeAt ws); last = getD ws 512 0; next = getD ws 513 0; seen = getD ws 514 0 }
+
+abbrev pub pageWords : PageEntry → List ℕ
+pageWords e = e .valid ∷ e .space ∷ e .page ∷ e .frame ∷ e .rights ∷ []
+
+abbrev pub rangeWords : RangeEntry → List ℕ
+rangeWords e = e .valid ∷ e .space ∷ e .base ∷ e .limit ∷ e .offset ∷ e .rights ∷ []
+
+abbrev pub lastWords : TlbUnit → List ℕ
+lastWords u = u .last ∷ u .next ∷ u .seen ∷ []
+
+-- the words of entries, one entry after another
+unfoldable pub joined : {A : Type 0} → (A → List ℕ) → List A → List ℕ
+joined f [] = []
+joined f (x ∷ xs) = f x ++ joined f xs
+
+-- the words of a unit
+unfoldable pub wordsOf : TlbUnit → List ℕ
+wordsOf u = joined pageWords (u .pages) ++ (joined rangeWords (u .ranges) ++ lastWords u)

@@ -1,0 +1,154 @@
+// A translation unit as words: read from a lent buffer, and written into one.
+ghost use mathlib.Core.Path.{_≡_};
+ghost use Prim.Native.Nat.{_<_};
+ghost use lib.ListN.{length};
+ghost use Rattle.words.specs.Tables.{tabulate};
+ghost use Rattle.catching.specs.Entries.{withPages, withRanges};
+ghost use Rattle.unitwords.specs.UnitWords.{pageAt, rangeAt, unitOf, pageWords, rangeWords, lastWords, joined, wordsOf};
+use history::PageEntry;
+use history::RangeEntry;
+use history::Unit;
+
+// Page entry k.
+fn page_at(words: &[u32], k: usize) -> PageEntry
+    requires { ⌜ length (now words) ≡ 515 ⌝ }
+    requires { ⌜ k < 64 ⌝ }
+    ensures { λ r. ⌜ r ≡ pageAt (now (words .entry)) k ⌝ }
+{
+    let at = 5 * k;
+    PageEntry {
+        valid: words[at],
+        space: words[at + 1],
+        page: words[at + 2],
+        frame: words[at + 3],
+        rights: words[at + 4],
+    }
+}
+
+// Range entry k.
+fn range_at(words: &[u32], k: usize) -> RangeEntry
+    requires { ⌜ length (now words) ≡ 515 ⌝ }
+    requires { ⌜ k < 32 ⌝ }
+    ensures { λ r. ⌜ r ≡ rangeAt (now (words .entry)) k ⌝ }
+{
+    let at = 320 + 6 * k;
+    RangeEntry {
+        valid: words[at],
+        space: words[at + 1],
+        base: words[at + 2],
+        limit: words[at + 3],
+        offset: words[at + 4],
+        rights: words[at + 5],
+    }
+}
+
+// The unit with the page entries of the words.
+fn with_pages(u: Unit, words: &[u32]) -> Unit
+    requires { ⌜ length (now words) ≡ 515 ⌝ }
+    ensures { λ r. ⌜ r ≡ withPages u (tabulate 64 (pageAt (now (words .entry)))) ⌝ }
+{
+    let mut v = u;
+    for k in 0..64 {
+        let e = page_at(words, k);
+        v.pages[k] = e;
+    }
+    v
+}
+
+// The unit with the range entries of the words.
+fn with_ranges(u: Unit, words: &[u32]) -> Unit
+    requires { ⌜ length (now words) ≡ 515 ⌝ }
+    ensures { λ r. ⌜ r ≡ withRanges u (tabulate 32 (rangeAt (now (words .entry)))) ⌝ }
+{
+    let mut v = u;
+    for k in 0..32 {
+        let e = range_at(words, k);
+        v.ranges[k] = e;
+    }
+    v
+}
+
+// The unit that the words are.
+pub fn read_unit(words: &[u32]) -> Unit
+    requires { ⌜ length (now words) ≡ 515 ⌝ }
+    ensures { λ r. ⌜ r ≡ unitOf (now (words .entry)) ⌝ }
+{
+    let empty = catching::emptied(0);
+    let paged = with_pages(empty, words);
+    let mut u = with_ranges(paged, words);
+    u.last = words[512];
+    u.next = words[513];
+    u.seen = words[514];
+    u
+}
+
+// Writes a page entry over the five words lent.
+fn write_page(place: &mut [u32], e: PageEntry)
+    requires { ⌜ length (now place) ≡ 5 ⌝ }
+    ensures { λ _. ⌜ now (place .exit) ≡ pageWords e ⌝ }
+{
+    place[0] = e.valid;
+    place[1] = e.space;
+    place[2] = e.page;
+    place[3] = e.frame;
+    place[4] = e.rights;
+}
+
+// Writes a range entry over the six words lent.
+fn write_range(place: &mut [u32], e: RangeEntry)
+    requires { ⌜ length (now place) ≡ 6 ⌝ }
+    ensures { λ _. ⌜ now (place .exit) ≡ rangeWords e ⌝ }
+{
+    place[0] = e.valid;
+    place[1] = e.space;
+    place[2] = e.base;
+    place[3] = e.limit;
+    place[4] = e.offset;
+    place[5] = e.rights;
+}
+
+// Writes the last used entry, the next place and the number of records seen over the three words lent.
+fn write_last(place: &mut [u32], u: Unit)
+    requires { ⌜ length (now place) ≡ 3 ⌝ }
+    ensures { λ _. ⌜ now (place .exit) ≡ lastWords u ⌝ }
+{
+    place[0] = u.last;
+    place[1] = u.next;
+    place[2] = u.seen;
+}
+
+// Writes the page entries over the words lent.
+fn write_pages(words: &mut [u32], u: Unit)
+    requires { ⌜ length (now words) ≡ 320 ⌝ }
+    ensures { λ _. ⌜ now (words .exit) ≡ joined pageWords (u .pages) ⌝ }
+{
+    for k in 0..64 {
+        let e = u.pages[k];
+        let a = 5 * k;
+        let z = a + 5;
+        write_page(&mut words[a..z], e);
+    }
+}
+
+// Writes the range entries over the words lent.
+fn write_ranges(words: &mut [u32], u: Unit)
+    requires { ⌜ length (now words) ≡ 192 ⌝ }
+    ensures { λ _. ⌜ now (words .exit) ≡ joined rangeWords (u .ranges) ⌝ }
+{
+    for k in 0..32 {
+        let e = u.ranges[k];
+        let a = 6 * k;
+        let z = a + 6;
+        write_range(&mut words[a..z], e);
+    }
+}
+
+// Writes the unit over the words lent.
+pub fn write_unit(words: &mut [u32], u: Unit)
+    requires { ⌜ length (now words) ≡ 515 ⌝ }
+    ensures { λ _. ⌜ now (words .exit) ≡ wordsOf u ⌝ }
+{
+    write_pages(&mut words[0..320], u);
+    write_ranges(&mut words[320..512], u);
+    write_last(&mut words[512..515], u);
+}
