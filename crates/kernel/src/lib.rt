@@ -5,8 +5,9 @@ ghost use lib.ListN.{length};
 ghost use Rattle.layout.specs.Answers.{outcome};
 ghost use Rattle.layout.specs.Tables.{tables};
 ghost use Rattle.layout.specs.Calls.{SetUpDone, OpenDone, CloseDone, MapDone, UnmapDone, ProtectDone};
-ghost use Rattle.history.specs.Translate.{CoverageDone};
-ghost use Rattle.kernel.specs.Exports.{Exported};
+ghost use Rattle.history.specs.Translate.{TranslateDone, SetUpUnitDone, CoverageDone};
+ghost use Rattle.unitwords.specs.UnitWords.{unitOf};
+ghost use Rattle.kernel.specs.Exports.{Exported, UnitExported};
 use layout::Answer;
 
 // Puts the two values of an answer into the place lent; its number.
@@ -36,6 +37,24 @@ pub extern "C" fn yavrestom_set_up_pool(
         return 1;
     }
     let a = tables::set_up_pool(control, frames, pages, ranges, pool);
+    give(values, a)
+}
+
+// Makes the unit fresh, whatever it was. Refused: 1.
+#[no_mangle]
+pub extern "C" fn yavrestom_set_up_unit(unit: &mut [u32], values: &mut [u32]) -> u32
+    ensures { λ r. ⌜ UnitExported (SetUpUnitDone (unitOf (now (unit .entry)))) (now (unit .entry)) (now (values .entry)) r (now (unit .exit)) (now (values .exit)) ⌝ }
+{
+    if values.len() != 2 {
+        return 1;
+    }
+    if unit.len() != 515 {
+        return 1;
+    }
+    let g = units::fresh();
+    let fresh = g.unit;
+    let a = g.answer;
+    unitwords::write_unit(unit, fresh);
     give(values, a)
 }
 
@@ -140,6 +159,39 @@ pub extern "C" fn yavrestom_protect(
     }
     let a = tables::protect(control, frames, pages, ranges, space, first, count, rights);
     give(values, a)
+}
+
+// Translates a page of a space by the unit; values: frame and way. The unit is written back where the call is accepted. Refused: 1, 2, 3, 5, 7, 8, 10, 12, 13.
+#[no_mangle]
+pub extern "C" fn yavrestom_translate(
+    unit: &mut [u32],
+    control: &[u32],
+    frames: &[u32],
+    pages: &[u32],
+    ranges: &[u32],
+    space: u32,
+    page: u32,
+    access: u32,
+    values: &mut [u32],
+) -> u32
+    ensures { λ r. ⌜ UnitExported (TranslateDone (tables (now (control .entry)) (now (frames .entry)) (now (pages .entry)) (now (ranges .entry))) (unitOf (now (unit .entry))) space page access) (now (unit .entry)) (now (values .entry)) r (now (unit .exit)) (now (values .exit)) ⌝ }
+{
+    if values.len() != 2 {
+        return 1;
+    }
+    if unit.len() != 515 {
+        return 1;
+    }
+    let u = unitwords::read_unit(unit);
+    let g = units::translated(u, control, frames, pages, ranges, space, page, access);
+    let after = g.unit;
+    let a = g.answer;
+    let number = give(values, a);
+    if number != 0 {
+        return number;
+    }
+    unitwords::write_unit(unit, after);
+    number
 }
 
 // Of a space's mapped pages, how many in 10,000 lie in ranges. Refused: 1, 2, 5, 10, 12.

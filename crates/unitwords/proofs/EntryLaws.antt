@@ -5,13 +5,14 @@ use Prim.Native.Nat.{ℕ, zero, suc, _+_, _-_, _*_, _<_, _≤_}
 use native.Mathlib.Nat.{zero-add, add-zero, mul-zero, mul-suc}
 use native.Mathlib.Numerals.{add-one}
 use native.Mathlib.Omega.{arith}
-use lib.ListN.{length, getD, set, take, drop, length-append, drop-of-length-le}
-use lib.Seq.{take-suc, take-all, drop-cons, drop-drop, take-at, drop-at, set-at, sets, sets-eq, length-take-le}
+use lib.ListN.{length, getD, set, take, drop, length-append, drop-of-length-le, List·getD-append}
+use lib.Seq.{take-suc, take-all, drop-cons, drop-drop, take-at, drop-at, set-at, sets, sets-eq, length-take-le, getD-append-add}
 use Rattle.words.specs.Tables.{tabFrom, tabulate}
-use Rattle.words.proofs.TableLaws.{length-tabulate}
+use Rattle.words.proofs.TableLaws.{length-tabulate, is-tabulate}
 use Rattle.history.specs.declared.PageEntry.{PageEntry}
 use Rattle.history.specs.declared.RangeEntry.{RangeEntry}
 use Rattle.history.specs.declared.Unit.{Unit as TlbUnit}
+use Rattle.history.specs.Units.{noPage, noRange}
 use Rattle.catching.specs.Entries.{withPages, withRanges}
 use Rattle.unitwords.specs.UnitWords.{pageAt, rangeAt, unitOf, pageWords, rangeWords, lastWords, joined, wordsOf}
 
@@ -84,6 +85,19 @@ module _ {A : Type 0} (f : A → List ℕ) where
         let r : length (joined f xs) ≡ m * length xs = length-joined xs in
         length-append (f x) (joined f xs) ∙ omega (arith, mul-suc m (length xs))
 
+    -- word j of entry k
+    joined-at : (l : List A) (rest : List ℕ) (k j : ℕ) (d : A) → k < length l → j < m → getD (joined f l ++ rest) (m * k + j) 0 ≡ getD (f (getD l k d)) j 0
+    unfolding joined
+    joined-at [] rest k j d h i = absurd (omega arith)
+    joined-at (x ∷ xs) rest zero j d h i =
+        let e : length (f x) ≡ m = each x in
+        let at : m * zero + j ≡ j = rw (mul-zero m) (zero-add j) in
+        rw (at, append-assoc (f x) (joined f xs) rest) (List·getD-append (f x) (joined f xs ++ rest) 0 j (omega arith))
+    joined-at (x ∷ xs) rest (suc k) j d h i =
+        let e : length (f x) ≡ m = each x in
+        let at : m * suc k + j ≡ length (f x) + (m * k + j) = omega (arith, mul-suc m k) in
+        rw (at, append-assoc (f x) (joined f xs) rest) (getD-append-add (f x) (joined f xs ++ rest) (m * k + j) 0 ∙ joined-at xs rest k j d (omega arith) i)
+
     module _ (l : List A) (b : List ℕ) where
       pub none-written : b ≡ writtenTo f m 0 l b
       unfolding writtenTo joined
@@ -120,11 +134,58 @@ in-three xs p r t ex ep er =
     rw (take-at p (drop 320 xs) 320 ep, drop-at p (drop 320 xs) 320 ep, drop-drop 192 320 xs) (sym (append-assoc p r (drop 512 xs))) in
     rw (mid, take-at (p ++ r) (drop 512 xs) 512 long, drop-at (p ++ r) (drop 512 xs) 512 long, drop-drop 3 512 xs, none-left xs 515 (omega arith), append-nil t) (append-assoc p r t)
 
--- the words of a unit, written part by part
-pub write-all : (xs p r t : List ℕ) (u : TlbUnit) → length xs ≡ 515 → length (u .pages) ≡ 64 → length (u .ranges) ≡ 32 → p ≡ joined pageWords (u .pages) → r ≡ joined rangeWords (u .ranges) → t ≡ lastWords u
-    → over 512 3 (over 320 192 (over 0 320 xs p) r) t ≡ wordsOf u
-unfolding wordsOf
-write-all xs p r t u ex ps rs ep er et =
-    let lp : length p ≡ 320 = rw ep (length-joined pageWords 5 (λ x. refl) (u .pages) ∙ ap (λ (n : ℕ). 5 * n) ps) in
-    let lr : length r ≡ 192 = rw er (length-joined rangeWords 6 (λ x. refl) (u .ranges) ∙ ap (λ (n : ℕ). 6 * n) rs) in
-    in-three xs p r t ex lp lr ∙ rw (ep, er, et)
+-- an entry is read where its fields are
+page-made : (ws : List ℕ) (k : ℕ) (e : PageEntry) → getD ws (5 * k) 0 ≡ e .valid → getD ws (5 * k + 1) 0 ≡ e .space → getD ws (5 * k + 2) 0 ≡ e .page → getD ws (5 * k + 3) 0 ≡ e .frame → getD ws (5 * k + 4) 0 ≡ e .rights
+    → e ≡ pageAt ws k
+unfolding pageAt
+page-made ws k e v s p f r = rw (pageAt, v, s, p, f, r)
+
+range-made : (ws : List ℕ) (k : ℕ) (e : RangeEntry) → getD ws (320 + 6 * k) 0 ≡ e .valid → getD ws (320 + 6 * k + 1) 0 ≡ e .space → getD ws (320 + 6 * k + 2) 0 ≡ e .base → getD ws (320 + 6 * k + 3) 0 ≡ e .limit → getD ws (320 + 6 * k + 4) 0 ≡ e .offset → getD ws (320 + 6 * k + 5) 0 ≡ e .rights
+    → e ≡ rangeAt ws k
+unfolding rangeAt
+range-made ws k e v s b l o r = rw (rangeAt, v, s, b, l, o, r)
+
+module _ (u : TlbUnit) (ps : length (u .pages) ≡ 64) (rs : length (u .ranges) ≡ 32) where
+  long-pages : length (joined pageWords (u .pages)) ≡ 320
+  long-pages = length-joined pageWords 5 (λ x. refl) (u .pages) ∙ ap (λ (n : ℕ). 5 * n) ps
+
+  long-ranges : length (joined rangeWords (u .ranges)) ≡ 192
+  long-ranges = length-joined rangeWords 6 (λ x. refl) (u .ranges) ∙ ap (λ (n : ℕ). 6 * n) rs
+
+  -- the words of a unit, written part by part
+  pub write-all : (xs p r t : List ℕ) → length xs ≡ 515 → p ≡ joined pageWords (u .pages) → r ≡ joined rangeWords (u .ranges) → t ≡ lastWords u → over 512 3 (over 320 192 (over 0 320 xs p) r) t ≡ wordsOf u
+  unfolding wordsOf
+  write-all xs p r t e ep er et = rw (ep, er, et) (in-three xs (joined pageWords (u .pages)) (joined rangeWords (u .ranges)) (lastWords u) e long-pages long-ranges)
+
+  page-word : (k j : ℕ) → k < 64 → j < 5 → getD (wordsOf u) (5 * k + j) 0 ≡ getD (pageWords (getD (u .pages) k noPage)) j 0
+  unfolding wordsOf
+  page-word k j h i = joined-at pageWords 5 (λ x. refl) (u .pages) (joined rangeWords (u .ranges) ++ lastWords u) k j noPage (omega arith) i
+
+  -- past the page entries
+  later-word : (i : ℕ) → getD (wordsOf u) (320 + i) 0 ≡ getD (joined rangeWords (u .ranges) ++ lastWords u) i 0
+  unfolding wordsOf
+  later-word i = rw (← long-pages) (getD-append-add (joined pageWords (u .pages)) (joined rangeWords (u .ranges) ++ lastWords u) i 0)
+
+  range-word : (k j : ℕ) → k < 32 → j < 6 → getD (wordsOf u) (320 + 6 * k + j) 0 ≡ getD (rangeWords (getD (u .ranges) k noRange)) j 0
+  range-word k j h i =
+      let at : 320 + 6 * k + j ≡ 320 + (6 * k + j) = omega arith in
+      rw at (later-word (6 * k + j) ∙ joined-at rangeWords 6 (λ x. refl) (u .ranges) (lastWords u) k j noRange (omega arith) i)
+
+  last-word : (j : ℕ) → getD (wordsOf u) (320 + (192 + j)) 0 ≡ getD (lastWords u) j 0
+  last-word j = later-word (192 + j) ∙ rw (← long-ranges) (getD-append-add (joined rangeWords (u .ranges)) (lastWords u) j 0)
+
+  pages-same : (k : ℕ) → k < 64 → getD (u .pages) k noPage ≡ pageAt (wordsOf u) k
+  pages-same k h =
+      let start : 5 * k ≡ 5 * k + 0 = omega arith in
+      page-made (wordsOf u) k _ (rw start (page-word k 0 h (omega arith))) (page-word k 1 h (omega arith)) (page-word k 2 h (omega arith)) (page-word k 3 h (omega arith)) (page-word k 4 h (omega arith))
+
+  ranges-same : (k : ℕ) → k < 32 → getD (u .ranges) k noRange ≡ rangeAt (wordsOf u) k
+  ranges-same k h =
+      let start : 320 + 6 * k ≡ 320 + 6 * k + 0 = omega arith in
+      range-made (wordsOf u) k _ (rw start (range-word k 0 h (omega arith))) (range-word k 1 h (omega arith)) (range-word k 2 h (omega arith)) (range-word k 3 h (omega arith)) (range-word k 4 h (omega arith)) (range-word k 5 h (omega arith))
+
+  -- the words of a unit are that unit
+  pub same-unit : (ws : List ℕ) → ws ≡ wordsOf u → unitOf ws ≡ u
+  unfolding unitOf
+  same-unit ws e =
+      rw (e, ← is-tabulate (u .pages) 64 (pageAt (wordsOf u)) noPage ps pages-same, ← is-tabulate (u .ranges) 32 (rangeAt (wordsOf u)) noRange rs ranges-same, last-word 0, last-word 1, last-word 2)

@@ -143,10 +143,11 @@ fn write_ranges(words: &mut [u32], u: Unit)
     }
 }
 
-// Writes the unit over the words lent.
+// Writes the unit over the words lent, which are that unit then.
 pub fn write_unit(words: &mut [u32], u: Unit)
     requires { ⌜ length (now words) ≡ 515 ⌝ }
     ensures { λ _. ⌜ now (words .exit) ≡ wordsOf u ⌝ }
+    ensures { λ _. ⌜ unitOf (now (words .exit)) ≡ u ⌝ }
 {
     write_pages(&mut words[0..320], u);
     write_ranges(&mut words[320..512], u);

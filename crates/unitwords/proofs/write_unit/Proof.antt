@@ -1,5 +1,6 @@
-use Rattle.unitwords.proofs.EntryLaws.{write-all}
-use lib.ListN.{length-map}
+use Rattle.unitwords.proofs.EntryLaws.{write-all, same-unit}
+use lib.ListN.{length, length-map}
+use mathlib.Core.Path.{_≡_}
 use borrow.Author.Needs.{needs}
 use Rattle.unitwords.proofs.write_unit.Statement.{statement}
 use Rattle.unitwords.proofs.write_unit.Tie as tie
@@ -58,7 +59,12 @@ same-length c = search needs
 
 -- src/lib.rt:147:1
 returns : tie.Need-returns
-returns c = write-all (c .before .before .before .before .before .before .before .before .before .before .before .before .before .args .words .now) _ _ _ (c .before .before .before .before .before .before .before .before .before .before .before .before .before .args .u) (c .before .before .before .before .before .before .before .before .before .before .before .before .before .pre) (rw length-map at (c .before .before .before .before .before .before .before .before .before .before .before .before .before .good .1 .0 .1 .1 .0 .1 .0 .1)) (rw length-map at (c .before .before .before .before .before .before .before .before .before .before .before .before .before .good .1 .0 .1 .1 .1 .0 .1 .0 .1)) (c .before .before .before .before .before .before .before .before .before .before .write-pages .ensures) (c .before .before .before .before .before .before .write-ranges .ensures) (c .before .before .write-last .ensures)
+returns c =
+    let a = c .before .before .before .before .before .before .before .before .before .before .before .before .before in
+    let ps : length (a .args .u .pages) ≡ 64 = rw length-map at (a .good .1 .0 .1 .1 .0 .1 .0 .1) in
+    let rs : length (a .args .u .ranges) ≡ 32 = rw length-map at (a .good .1 .0 .1 .1 .1 .0 .1 .0 .1) in
+    let w = write-all (a .args .u) ps rs (a .args .words .now) _ _ _ (a .pre) (c .before .before .before .before .before .before .before .before .before .before .write-pages .ensures) (c .before .before .before .before .before .before .write-ranges .ensures) (c .before .before .write-last .ensures) in
+    (w, same-unit (a .args .u) ps rs _ w)
 
 pub write-unit-spec : {M : Type 1} → statement M
 write-unit-spec =

@@ -1,0 +1,118 @@
+/* Yavrestom: the nine calls for a kernel in C.
+ *
+ * Every buffer is lent as a pointer and, after it, its length in words (of 32 bits). Buffers of one call must not
+ * overlap, and each is the caller's alone until the call returns. Any lengths, any words and any numbers may be
+ * passed: each call judges them itself.
+ *
+ * A call returns its number: 0 if it was accepted, else the lowest refusal that applies. Its two values go into
+ * `values`; a refused call puts zeros there and alters neither buffer nor unit. Where `values` has not exactly
+ * YAVRESTOM_VALUES words, or a unit not exactly YAVRESTOM_UNIT words, the number is 1 and nothing at all is written.
+ *
+ * Refusals
+ *    1  a length differs
+ *    2  the tables are unsound, or the unit is malformed
+ *    3  the unit has seen more removal records than there are
+ *    4  the pool size is not 1 to 4,096
+ *    5  the space is above 3
+ *    6  the rights are above 7
+ *    7  the access is not 1, 2 or 4
+ *    8  the count is 0, or the span goes past page 1,023; translate: the page is above 1,023
+ *    9  the space is already open
+ *   10  the space is not open
+ *   11  a page is already mapped
+ *   12  a page is not mapped; coverage: none is
+ *   13  the right is lacking
+ *   14  fewer frames are free than asked
+ *   15  no number is left for a removal record
+ *
+ * Rights and accesses: read 1, write 2, execute 4. Rights are a sum of these, an access is one of them.
+ */
+#ifndef YAVRESTOM_H
+#define YAVRESTOM_H
+
+#include <stddef.h>
+#include <stdint.h>
+
+#ifdef __cplusplus
+extern "C" {
+#endif
+
+/* The lengths of the buffers, in words. */
+#define YAVRESTOM_CONTROL 195
+#define YAVRESTOM_FRAMES 4096
+#define YAVRESTOM_PAGES 4096
+#define YAVRESTOM_RANGES 2048
+#define YAVRESTOM_VALUES 2
+
+/* A unit, one for each core, is 515 words:
+ *     0 .. 319   64 page entries of 5 words: valid, space, page, frame, rights
+ *   320 .. 511   32 range entries of 6 words: valid, space, BASE, LIMIT, OFFSET, rights
+ *   512          the range entry last used (32: none)
+ *   513          the next place to replace (0 to 31)
+ *   514          the number of removal records seen
+ */
+#define YAVRESTOM_UNIT 515
+#define YAVRESTOM_UNIT_RANGE_ENTRIES 320
+#define YAVRESTOM_UNIT_LAST_USED 512
+#define YAVRESTOM_UNIT_NEXT_PLACE 513
+#define YAVRESTOM_UNIT_SEEN 514
+
+/* All frames of a pool of `pool` frames free, no space open, nothing mapped, no removal record.
+ * Values: 0, 0. Refused: 1, 4. */
+uint32_t yavrestom_set_up_pool(uint32_t *control, size_t control_words, uint32_t *frames, size_t frames_words,
+                               uint32_t *pages, size_t pages_words, uint32_t *ranges, size_t ranges_words,
+                               uint32_t pool, uint32_t *values, size_t values_words);
+
+/* Makes the unit fresh, whatever it was. Values: 0, 0. Refused: 1. */
+uint32_t yavrestom_set_up_unit(uint32_t *unit, size_t unit_words, uint32_t *values, size_t values_words);
+
+/* Opens a space. Values: 0, 0. Refused: 1, 2, 5, 9. */
+uint32_t yavrestom_open(uint32_t *control, size_t control_words, const uint32_t *frames, size_t frames_words,
+                        const uint32_t *pages, size_t pages_words, const uint32_t *ranges, size_t ranges_words,
+                        uint32_t space, uint32_t *values, size_t values_words);
+
+/* Unmaps all pages of a space, appends a removal record for them and closes it.
+ * Values: pages removed, 0. Refused: 1, 2, 5, 10, 15. */
+uint32_t yavrestom_close(uint32_t *control, size_t control_words, uint32_t *frames, size_t frames_words,
+                         uint32_t *pages, size_t pages_words, uint32_t *ranges, size_t ranges_words,
+                         uint32_t space, uint32_t *values, size_t values_words);
+
+/* Maps `count` pages from `first` on, with the rights asked, to the frames that the map rule takes.
+ * Values: blocks taken, 0. Refused: 1, 2, 5, 6, 8, 10, 11, 14. */
+uint32_t yavrestom_map(const uint32_t *control, size_t control_words, uint32_t *frames, size_t frames_words,
+                       uint32_t *pages, size_t pages_words, uint32_t *ranges, size_t ranges_words,
+                       uint32_t space, uint32_t first, uint32_t count, uint32_t rights,
+                       uint32_t *values, size_t values_words);
+
+/* Unmaps `count` pages from `first` on and appends a removal record for them.
+ * Values: pages removed, 0. Refused: 1, 2, 5, 8, 10, 12, 15. */
+uint32_t yavrestom_unmap(uint32_t *control, size_t control_words, uint32_t *frames, size_t frames_words,
+                         uint32_t *pages, size_t pages_words, uint32_t *ranges, size_t ranges_words,
+                         uint32_t space, uint32_t first, uint32_t count, uint32_t *values, size_t values_words);
+
+/* Gives `count` pages from `first` on other rights and appends a removal record for them.
+ * Values: pages whose rights differ afterwards, 0. Refused: 1, 2, 5, 6, 8, 10, 12, 15. */
+uint32_t yavrestom_protect(uint32_t *control, size_t control_words, const uint32_t *frames, size_t frames_words,
+                           uint32_t *pages, size_t pages_words, uint32_t *ranges, size_t ranges_words,
+                           uint32_t space, uint32_t first, uint32_t count, uint32_t rights,
+                           uint32_t *values, size_t values_words);
+
+/* The unit catches up with the removal records, then the first that holds the page decides: a page entry (way 1),
+ * a range entry (way 2), the page word (way 3); what ways 2 and 3 give is installed in the unit.
+ * Values: frame, way. Refused: 1, 2, 3, 5, 7, 8, 10, 12, 13. */
+uint32_t yavrestom_translate(uint32_t *unit, size_t unit_words, const uint32_t *control, size_t control_words,
+                             const uint32_t *frames, size_t frames_words, const uint32_t *pages, size_t pages_words,
+                             const uint32_t *ranges, size_t ranges_words,
+                             uint32_t space, uint32_t page, uint32_t access, uint32_t *values, size_t values_words);
+
+/* Of a space's mapped pages, how many in 10,000 lie in ranges, rounded down.
+ * Values: that figure, 0. Refused: 1, 2, 5, 10, 12. */
+uint32_t yavrestom_coverage(const uint32_t *control, size_t control_words, const uint32_t *frames, size_t frames_words,
+                            const uint32_t *pages, size_t pages_words, const uint32_t *ranges, size_t ranges_words,
+                            uint32_t space, uint32_t *values, size_t values_words);
+
+#ifdef __cplusplus
+}
+#endif
+
+#endif
