@@ -1,0 +1,55 @@
+-- What a record does, from the parts of the step.
+use mathlib.Core.Path.{_≡_, ap, sym, subst, _∙_}
+use Prim.Native.Nat.{ℕ}
+use borrow.Author.Tests.{eq-eqb, ne-eqb}
+use Rattle.blocks.specs.declared.Outcome.{Outcome}
+use Rattle.layout.specs.declared.Answer.{Answer}
+use Rattle.layout.specs.Answers.{refusal, outcome}
+use Rattle.layout.specs.Tables.{Tables}
+use Rattle.history.specs.declared.Unit.{Unit as TlbUnit}
+use Rattle.history.specs.declared.Call.{Call}
+use Rattle.history.specs.Lists.{Does}
+use Rattle.trace.specs.declared.Meaning.{Meaning}
+use Rattle.trace.specs.declared.Meaning.the-variants.{Malformed, Asked}
+use Rattle.trace.specs.declared.TwoUnits.{TwoUnits}
+use Rattle.trace.specs.declared.Step.{Step}
+use Rattle.trace.specs.Steps.{freshUnits, unitAt, withUnit, renewed, answered, Taken, skipped, made}
+use Rattle.units.specs.declared.Translation.{Translation}
+use Rattle.units.specs.Translation.{freshly}
+
+module _ (T : Tables) (p : TwoUnits) (m : Meaning) (k : ℕ) where
+  pub skips : (o : Outcome) → m ≡ Malformed k → o ≡ refusal 16 → Taken T p m (record { kind = k; outcome = o; units = p }) T
+  skips o e f =
+      subst (λ (x : Meaning). Taken T p x (record { kind = k; outcome = o; units = p }) T) (sym e)
+      (subst (λ (x : Outcome). Taken T p (Malformed k) (record { kind = k; outcome = x; units = p }) T) (sym f) skipped)
+
+  pub asks : (n : ℕ) (c : Call) (r : Step) (T′ : Tables) → m ≡ Asked k n c → Taken T p (Asked k n c) r T′ → Taken T p m r T′
+  asks n c r T′ e t = subst (λ (x : Meaning). Taken T p x r T′) (sym e) t
+
+module _ (T T′ : Tables) (p : TwoUnits) (k n : ℕ) (c : Call) (v : TlbUnit) (t : Translation) (r : Step) where
+  pub makes : v ≡ unitAt p n → Does T v (t .answer) c T′ (t .unit) → r ≡ answered k n p t → Taken T p (Asked k n c) r T′
+  makes e does is = subst (λ (x : Step). Taken T p (Asked k n c) x T′) (sym is) (made (subst (λ (x : TlbUnit). Does T x (t .answer) c T′ (t .unit)) e does))
+
+module _ (k n : ℕ) (p : TwoUnits) (t : Translation) (o : Outcome) (q r : TwoUnits) where
+  pub answers : o ≡ outcome (t .answer) → q ≡ withUnit p n (t .unit) → r ≡ renewed k (t .answer) q → record { kind = k; outcome = o; units = r } ≡ answered k n p t
+  unfolding answered
+  answers eo eq er = rw (eo, er, eq)
+
+pub both-fresh : (t : Translation) → t ≡ freshly → record { first = t .unit; second = t .unit } ≡ freshUnits
+unfolding freshUnits freshly
+both-fresh t e = ap (λ (x : Translation). record { first = x .unit; second = x .unit }) e
+
+-- the units after a record
+module _ (k : ℕ) (a : Answer) (p : TwoUnits) where
+  pub other-kind : (k ≡ 1 → ⊥) → p ≡ renewed k a p
+  unfolding renewed
+  other-kind h = rw (ne-eqb _ _ h)
+
+  module _ (e : k ≡ 1) (o : Outcome) (is-outcome : o ≡ outcome a) where
+    pub not-set-up : (o .number ≡ 0 → ⊥) → p ≡ renewed k a p
+    unfolding renewed
+    not-set-up h = rw (eq-eqb _ _ e, ne-eqb _ _ (λ z. h (ap (λ (x : Outcome). x .number) is-outcome ∙ z)))
+
+    pub set-up : o .number ≡ 0 → freshUnits ≡ renewed k a p
+    unfolding renewed
+    set-up h = rw (eq-eqb _ _ e, eq-eqb _ _ (sym (ap (λ (x : Outcome). x .number) is-outcome) ∙ h))

@@ -1,0 +1,58 @@
+use borrow.Author.Needs.{needs}
+use native.Mathlib.Omega.{arith}
+use Rattle.trace.proofs.LineLaws.{counts, line-is}
+use Rattle.trace.proofs.lines.line.Statement.{statement}
+use Rattle.trace.proofs.lines.line.Tie as tie
+use Rattle.trace.proofs.lines.line.Reads as reads
+use Rattle.trace.proofs.lines.line.Lts as lts
+use Rattle.trace.proofs.lines.put.Reads as put-reads
+
+-- src/lines.rt:41:9
+put-requires : tie.Need-put-requires
+put-requires c κs = search needs
+
+-- src/lines.rt:42:9
+put-requires-2 : tie.Need-put-requires-2
+put-requires-2 c κs = search needs
+
+-- src/lines.rt:43:17
+cast-put : tie.Need-cast-put
+cast-put c = search needs
+
+-- src/lines.rt:43:9
+put-requires-3 : tie.Need-put-requires-3
+put-requires-3 c κs = search needs
+
+-- src/lines.rt:44:17
+cast-put-2 : tie.Need-cast-put-2
+cast-put-2 c = search needs
+
+-- src/lines.rt:44:9
+put-requires-4 : tie.Need-put-requires-4
+put-requires-4 c κs = search needs
+
+-- src/lines.rt:45:9
+cast-put-3 : tie.Need-cast-put-3
+cast-put-3 c = search needs
+
+-- src/lines.rt:45:5
+put-requires-5 : tie.Need-put-requires-5
+put-requires-5 c κs = search needs
+
+-- src/lines.rt:37:1
+returns : tie.Need-returns
+returns c = (counts _ _ (omega arith), line-is _ _ _ _ _ _ _ _ (c .before .before .before .before .before .before .before .before .before .before .before .put .ensures .0) (c .before .before .before .before .before .before .before .before .before .put2 .ensures .0) (c .before .before .before .before .before .before .put3 .ensures .0) (c .before .before .before .put4 .ensures .0) (c .put5 .ensures .0))
+
+pub line-spec : {M : Type 1} → statement M
+line-spec =
+    tie.close
+    (tie.spec
+    put-requires
+    put-requires-2
+    cast-put
+    put-requires-3
+    cast-put-2
+    put-requires-4
+    cast-put-3
+    put-requires-5
+    returns)
