@@ -65,11 +65,8 @@ pub fn both(second: &mut Second, world: &mut World, call: Call) -> Result<Answer
 /// A call whose numbers mostly make sense in a space that is in use.
 pub fn some_call(r: &mut Random, world: &World) -> Call {
     let space = if r.one_in(40) { r.word() } else { r.below(4) as u32 };
-    let first = if r.one_in(60) {
-        r.word()
-    } else {
-        r.below(if r.one_in(3) { 1024 } else { 48 }) as u32
-    };
+    let reach = if r.one_in(3) { 1024 } else { 48 };
+    let first = if r.one_in(60) { r.word() } else { r.below(reach) as u32 };
     let count = match r.below(30) {
         0 => r.word(),
         1 => 0,

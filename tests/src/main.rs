@@ -41,7 +41,8 @@ fn planted() -> bool {
         let red = ["lists", "damaged"].iter().any(|what| {
             let count = if *what == "lists" { "60" } else { "20000" };
             let out = std::process::Command::new(&me).arg(what).arg(count).env("REFERENCE_BUG", bug).output().unwrap();
-            !out.status.success()
+            // red by a difference, not by a stop of the comparison itself
+            out.status.code() == Some(1) && String::from_utf8_lossy(&out.stdout).contains("second program")
         });
         println!("planted bug {bug}: {}", if red { "seen" } else { "NOT SEEN" });
         fine &= red;

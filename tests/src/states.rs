@@ -33,6 +33,9 @@ fn state(r: &mut Random) -> World {
 /// What is done to the input, by name.
 fn damage(r: &mut Random, w: &mut World) -> &'static str {
     let kind = r.below(16);
+    if kind >= 7 && w.control.len() != 195 {
+        return "length";
+    }
     let buffer: &mut Vec<u32> = match r.below(5) {
         0 => &mut w.control,
         1 => &mut w.frames,
@@ -41,6 +44,9 @@ fn damage(r: &mut Random, w: &mut World) -> &'static str {
         _ => &mut w.unit,
     };
     let n = buffer.len();
+    if n == 0 {
+        return "length";
+    }
     let at = if r.one_in(2) {
         r.below(n as u64) as usize
     } else {
