@@ -1,7 +1,8 @@
-/* Yavrestom: the nine calls for a kernel in C.
+/* Yavrestom: the nine calls for a kernel in C. A kernel in Rust declares the same functions in an extern "C" block.
  *
- * Every buffer is lent as a pointer and, after it, its length in words (of 32 bits). Buffers of one call must not
- * overlap, and each is the caller's alone until the call returns. Any lengths, any words and any numbers may be
+ * Every buffer is lent as a pointer and, after it, its length in words (of 32 bits). The pointer is not null, and
+ * that many words stand there. A buffer that a call may write (no const) overlaps no other buffer of that call, and
+ * nobody else writes any of them until the call returns. Otherwise any lengths, any words and any numbers may be
  * passed: each call judges them itself.
  *
  * A call returns its number: 0 if it was accepted, else the lowest refusal that applies. Its two values go into

@@ -15,7 +15,7 @@ use Rattle.units.specs.Translation.{translation}
 use Rattle.units.proofs.TranslationLaws.{translation-done}
 use Rattle.unitwords.proofs.EntryLaws.{put-all}
 use Rattle.unitwords.specs.UnitWords.{unitOf, wordsOf}
-use Rattle.kernel.specs.Exports.{Answered, Exported, UnitLeft, UnitExported}
+use Rattle.kernel.specs.Exports.{Exported, UnitLeft, UnitExported}
 
 -- the two values of an answer, in a place of two words
 pub given : (xs : List ℕ) (o : Outcome) (a : Answer) → length xs ≡ 2 → o ≡ outcome a

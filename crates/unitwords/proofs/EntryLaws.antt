@@ -1,9 +1,8 @@
 -- Entries read from words and written into them, one entry more.
 use mathlib.Core.Path.{_≡_, refl, ap, _∙_, sym}
 use mathlib.Core.List.{List, [], _∷_, _++_, append-assoc, append-nil}
-use Prim.Native.Nat.{ℕ, zero, suc, _+_, _-_, _*_, _<_, _≤_}
+use Prim.Native.Nat.{ℕ, zero, suc, _+_, _*_, _<_, _≤_}
 use native.Mathlib.Nat.{zero-add, add-zero, mul-zero, mul-suc}
-use native.Mathlib.Numerals.{add-one}
 use native.Mathlib.Omega.{arith}
 use lib.ListN.{length, getD, set, take, drop, length-append, drop-of-length-le, List·getD-append}
 use lib.Seq.{take-suc, take-all, drop-cons, drop-drop, take-at, drop-at, set-at, sets, sets-eq, length-take-le, getD-append-add}
@@ -43,7 +42,7 @@ module _ {A : Type 0} (f : ℕ → A) (l : List A) where
   unfolding tabledTo tabulate tabFrom
   none-tabled = refl
 
-  pub one-tabled : (n : ℕ) (d : A) → n < length l → set (tabledTo f n l) n (f n) ≡ tabledTo f (n + 1) l
+  one-tabled : (n : ℕ) (d : A) → n < length l → set (tabledTo f n l) n (f n) ≡ tabledTo f (n + 1) l
   unfolding tabledTo tabulate
   one-tabled n d h =
       let s : n + 1 ≡ suc n = omega arith in
