@@ -174,7 +174,17 @@ impl World {
     /// The proved call on these words. The two values are taken from a lent place that held other numbers before.
     pub fn call(&mut self, call: Call) -> Answer {
         let mut values = [0xdead_beef_u32, 0xdead_beef];
-        let v = values.as_mut_ptr();
+        let number = self.call_into(call, &mut values);
+        Answer {
+            number,
+            first: values[0],
+            second: values[1],
+        }
+    }
+
+    /// The number, with a place of any length for the values.
+    pub fn call_into(&mut self, call: Call, values: &mut [u32]) -> u32 {
+        let (v, vn) = (values.as_mut_ptr(), values.len());
         let [a, b, c, d] = call.arguments;
         let (cp, cn) = (self.control.as_mut_ptr(), self.control.len());
         let (fp, fl) = (self.frames.as_mut_ptr(), self.frames.len());
@@ -182,23 +192,18 @@ impl World {
         let (rp, rn) = (self.ranges.as_mut_ptr(), self.ranges.len());
         let (up, un) = (self.unit.as_mut_ptr(), self.unit.len());
         // the pointers are of vectors of these lengths, none of them twice
-        let number = unsafe {
+        unsafe {
             match call.kind {
-                SET_UP_POOL => yavrestom_set_up_pool(cp, cn, fp, fl, pp, pn, rp, rn, a, v, 2),
-                OPEN => yavrestom_open(cp, cn, fp, fl, pp, pn, rp, rn, a, v, 2),
-                CLOSE => yavrestom_close(cp, cn, fp, fl, pp, pn, rp, rn, a, v, 2),
-                MAP => yavrestom_map(cp, cn, fp, fl, pp, pn, rp, rn, a, b, c, d, v, 2),
-                UNMAP => yavrestom_unmap(cp, cn, fp, fl, pp, pn, rp, rn, a, b, c, v, 2),
-                PROTECT => yavrestom_protect(cp, cn, fp, fl, pp, pn, rp, rn, a, b, c, d, v, 2),
-                TRANSLATE => yavrestom_translate(up, un, cp, cn, fp, fl, pp, pn, rp, rn, a, b, c, v, 2),
-                COVERAGE => yavrestom_coverage(cp, cn, fp, fl, pp, pn, rp, rn, a, v, 2),
-                _ => yavrestom_set_up_unit(up, un, v, 2),
+                SET_UP_POOL => yavrestom_set_up_pool(cp, cn, fp, fl, pp, pn, rp, rn, a, v, vn),
+                OPEN => yavrestom_open(cp, cn, fp, fl, pp, pn, rp, rn, a, v, vn),
+                CLOSE => yavrestom_close(cp, cn, fp, fl, pp, pn, rp, rn, a, v, vn),
+                MAP => yavrestom_map(cp, cn, fp, fl, pp, pn, rp, rn, a, b, c, d, v, vn),
+                UNMAP => yavrestom_unmap(cp, cn, fp, fl, pp, pn, rp, rn, a, b, c, v, vn),
+                PROTECT => yavrestom_protect(cp, cn, fp, fl, pp, pn, rp, rn, a, b, c, d, v, vn),
+                TRANSLATE => yavrestom_translate(up, un, cp, cn, fp, fl, pp, pn, rp, rn, a, b, c, v, vn),
+                COVERAGE => yavrestom_coverage(cp, cn, fp, fl, pp, pn, rp, rn, a, v, vn),
+                _ => yavrestom_set_up_unit(up, un, v, vn),
             }
-        };
-        Answer {
-            number,
-            first: values[0],
-            second: values[1],
         }
     }
 }

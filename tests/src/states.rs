@@ -30,56 +30,63 @@ fn state(r: &mut Random) -> World {
     world
 }
 
-/// What is done to the input, by name.
-fn damage(r: &mut Random, w: &mut World) -> &'static str {
-    let kind = r.below(16);
-    if kind >= 7 && w.control.len() != 195 {
-        return "length";
-    }
-    let buffer: &mut Vec<u32> = match r.below(5) {
+const BUFFERS: [&str; 5] = ["control", "frames", "pages", "ranges", "unit"];
+
+fn buffer_of<'a>(w: &'a mut World, which: usize) -> &'a mut Vec<u32> {
+    match which {
         0 => &mut w.control,
         1 => &mut w.frames,
         2 => &mut w.pages,
         3 => &mut w.ranges,
         _ => &mut w.unit,
-    };
+    }
+}
+
+/// One of the buffers, or the unit's words, is damaged: what was done, by name.
+fn damage_words(r: &mut Random, w: &mut World) -> String {
+    let which = r.below(5) as usize;
+    let buffer = buffer_of(w, which);
     let n = buffer.len();
     if n == 0 {
-        return "length";
+        return format!("length_{}", BUFFERS[which]);
     }
-    let at = if r.one_in(2) {
-        r.below(n as u64) as usize
-    } else {
-        r.below(n.min(64) as u64) as usize
-    };
-    match kind {
+    let near = r.below(n.min(64) as u64) as usize;
+    let at = if r.one_in(2) { r.below(n as u64) as usize } else { near };
+    // the second program's protocol has no unit of another length
+    let what = match r.below(if which < 4 { 8 } else { 7 }) {
         0..=2 => {
             buffer[at] = r.word();
             "word"
         }
-        3 => {
+        3 | 4 => {
             buffer[at] = buffer[at].wrapping_add(r.pick(&[1, u32::MAX, 4096, 32768, 65536]));
-            "word_by_a_little"
+            "little"
         }
-        4 => {
+        5 => {
             let other = r.below(n as u64) as usize;
             buffer.swap(at, other);
             "swap"
         }
-        5 => {
+        6 => {
             buffer.iter_mut().for_each(|x| *x = r.word());
             "scratch"
         }
-        6 if n != UNIT => {
+        _ => {
             let to = r.pick(&[0, n - 1, n + 1, 515, 195]);
-            if to == n {
-                buffer.push(0);
-            } else {
-                buffer.resize(to, 0);
-            }
+            buffer.resize(if to == n { n + 1 } else { to }, 0);
             "length"
         }
-        7 | 8 => {
+    };
+    format!("{what}_{}", BUFFERS[which])
+}
+
+/// A single field of the unit, or of the removal log, is set to something of interest.
+fn damage_field(r: &mut Random, w: &mut World) -> String {
+    if w.control.len() != 195 {
+        return "length_control".to_string();
+    }
+    let what = match r.below(10) {
+        0 | 1 => {
             w.control[1] = u32::MAX - r.below(3) as u32;
             for j in 0..64 {
                 if w.control[5 + 3 * j] == 0 {
@@ -91,24 +98,36 @@ fn damage(r: &mut Random, w: &mut World) -> &'static str {
             }
             "records_near_the_last"
         }
-        9 => {
+        2 => {
             w.unit[SEEN] = w.control[1].wrapping_add(1 + r.below(3) as u32);
             "seen_above"
         }
-        10 => {
+        3 => {
             w.unit[LAST] = r.below(34) as u32;
             "last_used"
         }
-        11 => {
+        4 => {
             w.unit[NEXT] = r.below(34) as u32;
             "next_place"
         }
-        12 | 13 => {
+        5 | 6 => {
             // a page entry that is well formed, and no list of calls made it
             let page = r.below(1024) as u32;
             let e = 5 * (page % 64) as usize;
             w.unit[e..e + 5].copy_from_slice(&[1, r.below(4) as u32, page, r.below(4096) as u32, r.below(8) as u32]);
             "foreign_page_entry"
+        }
+        7 => {
+            // one field of a page entry
+            let e = 5 * r.below(64) as usize + r.below(5) as usize;
+            w.unit[e] = r.below(4200) as u32;
+            "page_entry_field"
+        }
+        8 => {
+            // one field of a range entry
+            let e = 320 + r.below(192) as usize;
+            w.unit[e] = r.below(1100) as u32;
+            "range_entry_field"
         }
         _ => {
             // a range entry that is well formed, may overlap others and lack rights
@@ -122,10 +141,50 @@ fn damage(r: &mut Random, w: &mut World) -> &'static str {
             }
             "foreign_range_entry"
         }
+    };
+    what.to_string()
+}
+
+fn damage(r: &mut Random, w: &mut World) -> String {
+    if r.one_in(2) {
+        damage_words(r, w)
+    } else {
+        damage_field(r, w)
     }
 }
 
+/// A unit, or a place for the values, of another length: 1, and no word is altered.
+fn odd_lengths() -> bool {
+    let start = state(&mut Random::new(1));
+    let mut fine = true;
+    for kind in SET_UP_POOL..=SET_UP_UNIT {
+        let call = Call {
+            kind,
+            arguments: [if kind == SET_UP_POOL { 32 } else { 0 }, 0, 1, 1],
+        };
+        for (unit, place) in [(515, 0), (515, 1), (515, 3), (0, 2), (514, 2), (516, 2)] {
+            let takes_unit = kind == TRANSLATE || kind == SET_UP_UNIT;
+            if unit != UNIT && !takes_unit {
+                continue;
+            }
+            let mut world = start.clone();
+            world.unit.resize(unit, 7);
+            let before = world.clone();
+            let mut values = vec![9; place];
+            let number = world.call_into(call, &mut values);
+            if number != 1 || world != before || values.iter().any(|v| *v != 9) {
+                println!("{call:?} with a unit of {unit} words and a place of {place}: number {number}");
+                fine = false;
+            }
+        }
+    }
+    fine
+}
+
 pub fn compare(inputs: u64, first: u64) -> bool {
+    if !odd_lengths() {
+        return false;
+    }
     let mut second = Second::start();
     let mut seen = Seen::default();
     // fifty inputs share a state, which their seeds determine
@@ -158,7 +217,7 @@ pub fn compare(inputs: u64, first: u64) -> bool {
         }
         match both(&mut second, &mut world, call) {
             Ok(answer) => {
-                seen.note(what.to_string());
+                seen.note(what);
                 seen.note(format!("answer_{}", answer.number));
                 if call.kind == TRANSLATE && answer.number == 0 {
                     seen.note(format!("way_{}", answer.second));
@@ -171,28 +230,24 @@ pub fn compare(inputs: u64, first: u64) -> bool {
         }
     }
     println!("damaged and foreign inputs: seeds {first} to {}, equal", first + inputs - 1);
-    let must = [
-        "word",
-        "swap",
-        "scratch",
-        "length",
-        "records_near_the_last",
-        "seen_above",
-        "last_used",
-        "next_place",
-        "foreign_page_entry",
-        "foreign_range_entry",
-        "answer_0",
-        "answer_1",
-        "answer_2",
-        "answer_3",
-        "answer_12",
-        "answer_13",
-        "answer_15",
-        "way_1",
-        "way_2",
-        "way_3",
-    ];
-    let must: Vec<String> = must.iter().map(|w| w.to_string()).collect();
+    let mut must: Vec<String> = ["word", "little", "swap", "scratch", "length"]
+        .iter()
+        .flat_map(|what| BUFFERS.iter().map(move |b| format!("{what}_{b}")))
+        .collect();
+    must.extend(
+        [
+            "records_near_the_last",
+            "seen_above",
+            "last_used",
+            "next_place",
+            "page_entry_field",
+            "range_entry_field",
+            "foreign_page_entry",
+            "foreign_range_entry",
+        ]
+        .map(String::from),
+    );
+    must.extend([0, 1, 2, 3, 12, 13, 15].map(|n| format!("answer_{n}")));
+    must.extend([1, 2, 3].map(|n| format!("way_{n}")));
     seen.report(if inputs >= 10_000 { &must } else { &[] })
 }
