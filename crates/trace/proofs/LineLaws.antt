@@ -2,18 +2,18 @@
 use mathlib.Core.Path.{_≡_, refl, ap, sym, subst, _∙_}
 use mathlib.Core.List.{List, [], _∷_, _++_, append-assoc}
 use Prim.Native.Nat.{ℕ, zero, suc, _+_, _-_, _^_, _≤_, _<_}
-use native.Mathlib.Nat.{pow-le-pow-right, lt-of-not-le, le-antisymm, le-of-suc-le-suc}
+use native.Mathlib.Nat.{zero-add, pow-le-pow-right, lt-of-not-le, le-antisymm, le-of-suc-le-suc}
 use native.Mathlib.Numerals.{add-one}
 use native.Mathlib.Omega.{arith}
-use lib.ListN.{length, take, set}
-use lib.Seq.{paste, take-paste, length-paste, length-take-le, take-suc-set}
+use lib.ListN.{length, take, drop, set, length-append}
+use lib.Seq.{paste, length-paste-head, length-take-le, take-at, set-at, drop-cons, drop-drop, drop-append-add}
 use lib.Dec.{ltb}
 use borrow.Author.Tests.{ltb-true, ltb-false}
 use Rattle.words.proofs.Cases.{by-test}
 use Rattle.io.specs.Counts.{Counts}
 use Rattle.io.specs.Digits.{digits, Fewest}
 use Rattle.blocks.specs.declared.Outcome.{Outcome}
-use Rattle.trace.specs.Lines.{placesFrom, decimal, cell, line}
+use Rattle.trace.specs.Lines.{placesFrom, decimal, written, cell, line}
 
 -- the fewest places that hold n are the first that do
 module _ (n k : ℕ) (fewest : Fewest 10 1 n k) where
@@ -47,23 +47,62 @@ module _ (n k : ℕ) (fewest : Fewest 10 1 n k) where
 
 -- a number put at a place, and the byte after it
 module _ (out text next : List ℕ) (at n k after : ℕ) (fewest : Fewest 10 1 n k) (k-fits : k ≤ 20) (copied : next ≡ paste out at text k) (spelt : take k text ≡ digits 10 k n) (at-fits : at + k < length out) (text-fits : k ≤ length text) where
-  pub put-is : take (at + k + 1) (set next (at + k) after) ≡ take at out ++ cell n after
+  text-is : take k text ≡ decimal n
+  text-is = spelt ∙ digits-are n k fewest k-fits
+
+  cell-length : length (cell n after) ≡ k + 1
   unfolding cell
+  cell-length = length-append (decimal n) (after ∷ []) ∙ ap (λ (j : ℕ). j + 1) (ap length (sym text-is) ∙ length-take-le k text text-fits)
+
+  pub put-ends : at + k + 1 ≡ at + length (cell n after)
+  put-ends = rw cell-length (omega arith)
+
+  rest-is : suc (at + k) ≡ at + length (cell n after)
+  rest-is = sym (add-one (at + k)) ∙ put-ends
+
+  pub put-is : set next (at + k) after ≡ written at (cell n after) out
+  unfolding written cell
   put-is =
-      let l : length (paste out at text k) ≡ length out = length-paste out at text k (omega arith) text-fits in
-      let s : at + k + 1 ≡ suc (at + k) = add-one (at + k) in
-      ap (λ (x : List ℕ). take (at + k + 1) (set x (at + k) after)) copied
-      ∙ ap (λ (i : ℕ). take i (set (paste out at text k) (at + k) after)) s
-      ∙ take-suc-set (paste out at text k) (at + k) after (omega arith)
-      ∙ ap (λ (x : List ℕ). x ++ (after ∷ [])) (take-paste out at text k (omega arith) text-fits)
-      ∙ append-assoc (take at out) (take k text) (after ∷ [])
-      ∙ ap (λ (x : List ℕ). take at out ++ (x ++ (after ∷ []))) (spelt ∙ digits-are n k fewest k-fits)
+      ap (λ (x : List ℕ). set x (at + k) after) copied
+      ∙ ap (λ (x : List ℕ). set (take at out ++ take k text ++ x) (at + k) after) (drop-cons out (at + k) 0 at-fits)
+      ∙ set-at (take at out ++ take k text) _ _ after (at + k) (length-paste-head out at text k (omega arith) text-fits)
+      ∙ append-assoc (take at out) (take k text) (after ∷ drop (suc (at + k)) out)
+      ∙ ap (λ (x : List ℕ). take at out ++ (x ++ (after ∷ drop (suc (at + k)) out))) text-is
+      ∙ ap (λ (i : ℕ). take at out ++ (decimal n ++ (after ∷ drop i out))) rest-is
+      ∙ ap (λ (x : List ℕ). take at out ++ x) (sym (append-assoc (decimal n) (after ∷ []) (drop (at + length (cell n after)) out)))
+
+sum-is : (l m : List ℕ) → 0 + length l + length m ≡ 0 + length (l ++ m)
+sum-is l m = rw (length-append l m) (omega arith)
+
+-- the text so far: l, from the start on, and the place after it
+pub record Text (l before out : List ℕ) (r : ℕ) : Type 0 where
+  pub ends : r ≡ length l
+  pub is : out ≡ written 0 l before
+
+pub begun : (m before next : List ℕ) (r : ℕ) → next ≡ written 0 m before → r ≡ 0 + length m → Text m before next r
+begun m before next r e f = record { ends = f ∙ zero-add (length m); is = e }
+
+module _ (l m before out next : List ℕ) (at r : ℕ) where
+  pub goes-on : Text l before out at → next ≡ written at m out → r ≡ at + length m → Text (l ++ m) before next r
+  unfolding written
+  goes-on t e f =
+      record {
+        ends = f ∙ ap (λ (i : ℕ). i + length m) (t .ends) ∙ sym (length-append l m);
+        is =
+            e
+            ∙ ap (λ (i : ℕ). written i m out) (t .ends)
+            ∙ ap (written (length l) m) (t .is)
+            ∙ ap (λ (x : List ℕ). x ++ (m ++ drop (length l + length m) (l ++ drop (0 + length l) before))) (take-at l _ (length l) refl)
+            ∙ ap (λ (x : List ℕ). l ++ (m ++ x)) (drop-append-add l (drop (0 + length l) before) (length m) ∙ drop-drop (length m) (0 + length l) before)
+            ∙ sym (append-assoc l m (drop (0 + length l + length m) before))
+            ∙ ap (λ (i : ℕ). (l ++ m) ++ drop i before) (sum-is l m);
+      }
 
 -- five of them are a line
-module _ (number kind : ℕ) (o : Outcome) (t1 t2 t3 t4 t5 : List ℕ) where
-  pub line-is : t1 ≡ cell number 32 → t2 ≡ t1 ++ cell kind 32 → t3 ≡ t2 ++ cell (o .number) 32 → t4 ≡ t3 ++ cell (o .first) 32 → t5 ≡ t4 ++ cell (o .second) 10 → t5 ≡ line number kind o
+module _ (number kind : ℕ) (o : Outcome) (before out : List ℕ) (r : ℕ) where
+  pub line-is : Text (cell number 32 ++ cell kind 32 ++ cell (o .number) 32 ++ cell (o .first) 32 ++ cell (o .second) 10) before out r → Text (line number kind o) before out r
   unfolding line
-  line-is e1 e2 e3 e4 e5 = rw (e5, e4, e3, e2, e1)
+  line-is t = t
 
 pub counts : (r : ℕ) (l : List ℕ) → r ≤ length l → Counts r l
 counts r l h = (h, sym (length-take-le r l h))

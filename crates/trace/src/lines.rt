@@ -1,11 +1,10 @@
 // Writing a line: five decimal numbers.
 ghost use mathlib.Core.Path.{_≡_};
-ghost use mathlib.Core.List.{_++_};
 ghost use Prim.Native.Nat.{_+_, _≤_};
-ghost use lib.ListN.{length, take};
+ghost use lib.ListN.{length};
 ghost use lib.Seq.{paste};
 ghost use Rattle.io.specs.Counts.{Counts};
-ghost use Rattle.trace.specs.Lines.{cell, line};
+ghost use Rattle.trace.specs.Lines.{written, cell, line};
 use blocks::Outcome;
 
 // Copies the first n bytes of `from` to place `at` of `out`.
@@ -23,7 +22,8 @@ fn copy(from: &[u8; 20], n: usize, out: &mut [u8], at: usize)
 // Puts a number and the byte after it at place `at` of `out`, and answers the place after them.
 fn put(n: u64, after: u8, out: &mut [u8], at: usize) -> usize
     requires { ⌜ at + 21 ≤ length (now out) ⌝ }
-    ensures { λ r. ⌜ take r (now (out .exit)) ≡ take at (now (out .entry)) ++ cell n after ⌝ }
+    ensures { λ r. ⌜ now (out .exit) ≡ written at (cell n after) (now (out .entry)) ⌝ }
+    ensures { λ r. ⌜ r ≡ at + length (cell n after) ⌝ }
     ensures { λ r. ⌜ r ≤ at + 21 ⌝ }
 {
     let mut text = [0u8; 20];
@@ -37,7 +37,8 @@ fn put(n: u64, after: u8, out: &mut [u8], at: usize) -> usize
 // Puts a record's line at the start of `out`, and answers its length.
 pub fn line(number: u64, kind: u32, o: Outcome, out: &mut [u8; 105]) -> usize
     ensures { λ r. ⌜ Counts r (now (out .exit)) ⌝ }
-    ensures { λ r. ⌜ take r (now (out .exit)) ≡ line number kind o ⌝ }
+    ensures { λ r. ⌜ r ≡ length (line number kind o) ⌝ }
+    ensures { λ r. ⌜ now (out .exit) ≡ written 0 (line number kind o) (now (out .entry)) ⌝ }
 {
     let a = put(number, b' ', out, 0);
     let b = put(kind as u64, b' ', out, a);

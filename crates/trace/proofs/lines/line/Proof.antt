@@ -1,6 +1,6 @@
 use borrow.Author.Needs.{needs}
 use native.Mathlib.Omega.{arith}
-use Rattle.trace.proofs.LineLaws.{counts, line-is}
+use Rattle.trace.proofs.LineLaws.{counts, begun, goes-on, line-is}
 use Rattle.trace.proofs.lines.line.Statement.{statement}
 use Rattle.trace.proofs.lines.line.Tie as tie
 use Rattle.trace.proofs.lines.line.Reads as reads
@@ -41,7 +41,13 @@ put-requires-5 c κs = search needs
 
 -- src/lines.rt:37:1
 returns : tie.Need-returns
-returns c = (counts _ _ (omega arith), line-is _ _ _ _ _ _ _ _ (c .before .before .before .before .before .before .before .before .before .before .before .put .ensures .0) (c .before .before .before .before .before .before .before .before .before .put2 .ensures .0) (c .before .before .before .before .before .before .put3 .ensures .0) (c .before .before .before .put4 .ensures .0) (c .put5 .ensures .0))
+returns c =
+    let t1 = begun _ _ _ _ (c .before .before .before .before .before .before .before .before .before .before .before .put .ensures .0) (c .before .before .before .before .before .before .before .before .before .before .before .put .ensures .1 .0) in
+    let t2 = goes-on _ _ _ _ _ _ _ t1 (c .before .before .before .before .before .before .before .before .before .put2 .ensures .0) (c .before .before .before .before .before .before .before .before .before .put2 .ensures .1 .0) in
+    let t3 = goes-on _ _ _ _ _ _ _ t2 (c .before .before .before .before .before .before .put3 .ensures .0) (c .before .before .before .before .before .before .put3 .ensures .1 .0) in
+    let t4 = goes-on _ _ _ _ _ _ _ t3 (c .before .before .before .put4 .ensures .0) (c .before .before .before .put4 .ensures .1 .0) in
+    let t = line-is _ _ _ _ _ _ (goes-on _ _ _ _ _ _ _ t4 (c .put5 .ensures .0) (c .put5 .ensures .1 .0)) in
+    (counts _ _ (omega arith), (t .ends, t .is))
 
 pub line-spec : {M : Type 1} → statement M
 line-spec =
