@@ -1,5 +1,5 @@
 -- Catching up: an entry that stays is one that no unseen record names, and the unit stays well formed.
-use mathlib.Core.Path.{_≡_, refl, ap, _∙_, sym}
+use mathlib.Core.Path.{_≡_, refl, ap, _∙_, sym, subst}
 use mathlib.Core.Bool.{true, false}
 use mathlib.Core.List.{List}
 use Prim.Native.Nat.{ℕ, zero, suc, _+_, _-_, _<_, _≤_, zero-le}
@@ -205,7 +205,7 @@ unfolding caughtUp emptied seenAll
 caught-next c u h =
     by-test (ltb 64 (removals c - u .seen))
     (λ y. rw (y, caughtUp) zero-le)
-    (λ n. rw (n, caughtUp, applied-next c (removals c - u .seen) (u .seen + 1) u) h)
+    (λ n. rw (n, caughtUp) (subst (λ (x : ℕ). x ≤ 31) (sym (applied-next c _ _ u)) h))
 
 -- a valid entry then was there before, at most 64 records were unseen, and none of them names it
 pub caught-page : (c : List ℕ) (u : TlbUnit) (k : ℕ) → getD (caughtUp c u .pages) k noPage .valid ≡ 1
