@@ -137,7 +137,7 @@ fn list(second: &mut Second, seed: u64, seen: &mut Seen) -> Result<(), String> {
         let mut call = some_call(&mut r, &world);
         if sleep && turn % 40 == 20 {
             for _ in 0..r.pick(&[63, 64, 65]) {
-                // a removal record that costs nothing: a page of space 3 mapped and unmapped
+                // a removal record: space 3 opened and closed
                 both(
                     second,
                     &mut world,

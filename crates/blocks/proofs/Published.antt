@@ -1,5 +1,5 @@
 -- What the frame pool promises to a layer above, beyond the contracts of its functions. A crate above imports from the pool this module and the definitions that promises name, and nothing else.
-use mathlib.Core.Path.{_≡_, refl, ap, _∙_, sym}
+use mathlib.Core.Path.{_≡_, refl, sym}
 use mathlib.Core.Bool.{Bool, true, false}
 use mathlib.Core.List.{List}
 use mathlib.Core.Option.{Option, some}
@@ -88,10 +88,6 @@ owner-word b f n =
     by-dec (decLe (getD b f 0) 4096)
     (λ le. let e = owner-low (getD b f 0) le in (sym e, omega arith, omega arith))
     (λ gt. absurd (n (owner-high (getD b f 0) (omega arith))))
-
-pub word-owner : (b : List ℕ) (f w : ℕ) → getD b f 0 ≡ w → w ≤ 4096 → ownersOf b f ≡ w
-unfolding ownersOf
-word-owner b f w e le = ap ownerOf e ∙ owner-low w le
 
 -- a frame is free where it has no owner
 pub free-says : (owner : ℕ → ℕ) (f : ℕ) → freeOf owner f ≡ true → owner f ≡ 0

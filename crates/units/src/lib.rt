@@ -1,4 +1,4 @@
-// Translate, by value: the request is judged, then the unit catches up, the first that holds the page decides, and what it gives is installed.
+// Translate and set up unit, by value and on a unit that is lent: a request is judged, then the unit catches up, the first that holds the page decides, and what it gives is installed.
 ghost use mathlib.Core.Path.{_≡_};
 ghost use mathlib.Core.Bool.{true, _&&_};
 ghost use Prim.Native.Nat.{_≤_};
