@@ -10,6 +10,12 @@ use lib.ListN.{getD}
 unfoldable pub sameIn : List ℕ → ℕ → ℕ → Bool
 sameIn b v g = eqb (getD b g 0) v
 
+-- the words from s up to r, r left out and at most e, are v
+pub record SameTo (b : List ℕ) (s e v r : ℕ) : Type 0 where
+  pub from : s ≤ r
+  pub to : r ≤ e
+  pub same : (g : ℕ) → s ≤ g → g < r → getD b g 0 ≡ v
+
 -- the words from s up to e, e left out, are v, and every other is as it was
 pub record Filled (b : List ℕ) (s e v : ℕ) (b′ : List ℕ) : Type 0 where
   pub inside : (g : ℕ) → s ≤ g → g < e → getD b′ g 0 ≡ v

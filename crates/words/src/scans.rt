@@ -1,0 +1,76 @@
+// Scans of lent words. A chunk of sixteen is counted without a branch, so that the compiler reads several words at a time.
+ghost use mathlib.Core.Path.{_≡_};
+ghost use mathlib.Core.Bool.{false};
+ghost use Prim.Native.Nat.{_+_, _-_, _≤_};
+ghost use lib.ListN.{length};
+ghost use lib.Dec.{eqb};
+ghost use Rattle.words.specs.Counts.{one-if};
+ghost use Rattle.words.specs.Searches.{allFrom};
+ghost use Rattle.words.specs.Writes.{sameIn, SameTo};
+
+fn one_if_same(w: u32, v: u32) -> u32
+    ensures { λ r. ⌜ r ≡ one-if (eqb w v) ⌝ }
+    ensures { λ r. ⌜ r ≤ 1 ⌝ }
+{
+    if w == v {
+        return 1;
+    }
+    0
+}
+
+// Whether the sixteen words from `at` on are all v.
+fn chunk_same(words: &[u32], at: usize, v: u32) -> bool
+    requires { ⌜ at + 16 ≤ length (now words) ⌝ }
+    ensures { λ r. ⌜ r ≡ allFrom 16 at (sameIn (now (words .entry)) v) ⌝ }
+{
+    let mut n: u32 = 0;
+    let mut j: usize = 0;
+    while j < 16 {
+        n += one_if_same(words[at + j], v);
+        j += 1;
+    }
+    n == 16
+}
+
+// A place up to which the words from `from` on are all v, chunk after chunk.
+fn same_chunks(words: &[u32], from: usize, end: usize, v: u32) -> usize
+    requires { ⌜ end ≤ length (now words) ⌝ }
+    requires { ⌜ from ≤ end ⌝ }
+    ensures { λ r. ⌜ SameTo (now (words .entry)) from end v r ⌝ }
+{
+    let mut g = from;
+    while 16 <= end - g {
+        if !chunk_same(words, g, v) {
+            return g;
+        }
+        g += 16;
+    }
+    g
+}
+
+// The first place from `from` on, and before `end`, whose word is not v, or else `end`.
+pub fn same_to(words: &[u32], from: usize, end: usize, v: u32) -> usize
+    requires { ⌜ end ≤ length (now words) ⌝ }
+    requires { ⌜ from ≤ end ⌝ }
+    ensures { λ r. ⌜ SameTo (now (words .entry)) from end v r ⌝ }
+    ensures { λ r. ⌜ ((r ≡ end → ⊥) → sameIn (now (words .entry)) v r ≡ false) ⌝ }
+{
+    let mut g = same_chunks(words, from, end, v);
+    while g < end {
+        if words[g] != v {
+            return g;
+        }
+        g += 1;
+    }
+    g
+}
+
+// Whether the words from `from` up to `end` are all v.
+pub fn all_same(words: &[u32], from: usize, end: usize, v: u32) -> bool
+    requires { ⌜ end ≤ length (now words) ⌝ }
+    requires { ⌜ from ≤ end ⌝ }
+    ensures { λ r. ⌜ r ≡ allFrom (end - from) from (sameIn (now (words .entry)) v) ⌝ }
+{
+    let last = same_to(words, from, end, v);
+    last == end
+}
