@@ -3,7 +3,7 @@ ghost use mathlib.Core.Path.{_≡_};
 ghost use Prim.Native.Nat.{ℕ, _+_, _-_, _^_, _≤_, _<_};
 ghost use lib.ListN.{length};
 ghost use Rattle.words.specs.Searches.{allFrom};
-ghost use Rattle.words.specs.Writes.{sameIn, Filled, CountedUp};
+ghost use Rattle.words.specs.Writes.{Filled, CountedUp};
 ghost use Rattle.blocks.specs.FrameWords.{ownerOf, freeIn};
 
 // The owner that a frame word names, 0 for a free frame.
@@ -34,22 +34,6 @@ pub fn all_free(frames: &[u32], from: usize, end: usize) -> bool
     while g < end {
         let w = owner_of(frames[g]);
         if w != 0 {
-            return false;
-        }
-        g += 1;
-    }
-    true
-}
-
-// Whether the words from `from` up to `end` are all v.
-pub fn all_same(words: &[u32], from: usize, end: usize, v: u32) -> bool
-    requires { ⌜ end ≤ length (now words) ⌝ }
-    requires { ⌜ from ≤ end ⌝ }
-    ensures { λ r. ⌜ r ≡ allFrom (end - from) from (sameIn (now (words .entry)) v) ⌝ }
-{
-    let mut g = from;
-    while g < end {
-        if words[g] != v {
             return false;
         }
         g += 1;

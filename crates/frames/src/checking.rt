@@ -6,11 +6,11 @@ ghost use lib.ListN.{length};
 ghost use Rattle.words.specs.Counts.{count, one-if};
 ghost use Rattle.blocks.specs.FrameWords.{isOwner, freeIn, heldIn, lawful};
 ghost use Rattle.blocks.specs.Passes.{Edge, Checked};
-use crate::buffer::all_same;
 use crate::buffer::owner_of;
 use crate::buffer::size_of;
 use crate::settling::grow;
 use blocks::Frame;
+use words::scans::all_same;
 
 // What the check finds: whether the words are lawful, and how many frames are held.
 pub struct Judged {

@@ -8,10 +8,10 @@ ghost use Rattle.words.specs.Searches.{allFrom, anyFrom};
 ghost use Rattle.blocks.specs.FrameWords.{ownerOf, ownersOf, freeIn, frameWords};
 ghost use Rattle.blocks.specs.Owners.{inSpan, cleared, freed, holds};
 ghost use Rattle.blocks.specs.Passes.{ClearedTo, MarkedOne, MarkedTo};
-use crate::buffer::all_same;
 use crate::buffer::fill;
 use crate::buffer::owner_of;
 use crate::settling::settle;
+use words::scans::all_same;
 
 fn one_if_free(w: u32) -> u32
     ensures { λ r. ⌜ r ≡ one-if (eqb (ownerOf w) 0) ⌝ }
