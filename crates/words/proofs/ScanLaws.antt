@@ -10,7 +10,7 @@ use lib.ListN.{getD}
 use borrow.Author.Tests.{eqb-true, eqb-false, eq-eqb, ne-eqb}
 use Rattle.words.specs.Counts.{count, one-if}
 use Rattle.words.specs.Searches.{allFrom}
-use Rattle.words.specs.Writes.{sameIn, SameTo}
+use Rattle.words.specs.Writes.{sameIn, countsIn, PassTo}
 use Rattle.words.proofs.Cases.{by-test, by-dec, true-false}
 use Rattle.words.proofs.CountLaws.{count-all, all-pass}
 use Rattle.words.proofs.SearchLaws.{allFrom-at, at-allFrom, some-fails}
@@ -37,36 +37,64 @@ all-by-count n at p =
     (x .3))
     ∙ sym f)
 
-pub count-next : (b : List ℕ) (v at j m r : ℕ) → m ≡ count j (λ i. sameIn b v (at + i)) → r ≡ one-if (eqb (getD b (at + j) 0) v) → m + r ≡ count (j + 1) (λ i. sameIn b v (at + i))
-unfolding count sameIn
-count-next b v at j m r e q = let s : j + 1 ≡ suc j = omega arith in rw (s, e, q)
+pub count-next : (p : ℕ → Bool) (j m r : ℕ) → m ≡ count j p → r ≡ one-if (p j) → m + r ≡ count (j + 1) p
+unfolding count
+count-next p j m r e q = let s : j + 1 ≡ suc j = omega arith in rw (s, e, q)
 
-module _ (b : List ℕ) (s e v : ℕ) where
-  pub same-none : s ≤ e → SameTo b s e v s
-  same-none h = record { from = omega arith; to = h; same = λ g lo hi. absurd (omega arith) }
+module _ (p : ℕ → Bool) (s e : ℕ) where
+  pub pass-none : s ≤ e → PassTo p s e s
+  pass-none h = record { from = omega arith; to = h; pass = λ g lo hi. absurd (omega arith) }
 
-  -- n words more
-  pub same-more : (g n : ℕ) → SameTo b s e v g → g + n ≤ e → ((k : ℕ) → g ≤ k → k < g + n → getD b k 0 ≡ v) → SameTo b s e v (g + n)
-  same-more g n x h more = record {
+  -- a chunk of n more
+  pub pass-chunk : (g n : ℕ) → PassTo p s e g → g + n ≤ e → allFrom n g p ≡ true → PassTo p s e (g + n)
+  pass-chunk g n x h t = record {
     from = omega (arith, x .from);
     to = h;
-    same = λ k lo hi. by-dec (decLt k g) (λ lt. x .same k lo lt) (λ ge. more k (omega arith) hi);
+    pass = λ k lo hi. by-dec (decLt k g) (λ lt. x .pass k lo lt) (λ ge. allFrom-at n g p t k (omega arith) hi);
   }
 
-  pub chunk-more : (g n : ℕ) → SameTo b s e v g → g + n ≤ e → allFrom n g (sameIn b v) ≡ true → SameTo b s e v (g + n)
-  unfolding sameIn
-  chunk-more g n x h t = same-more g n x h (λ k lo hi. eqb-true _ _ (allFrom-at n g (sameIn b v) t k lo hi))
+  pub pass-one : (g : ℕ) → PassTo p s e g → g < e → p g ≡ true → PassTo p s e (g + 1)
+  pass-one g x h t = pass-chunk g 1 x (omega arith) (at-allFrom 1 g p (λ k lo hi. let q : k ≡ g = omega arith in rw q t))
 
-  pub word-more : (g : ℕ) → SameTo b s e v g → g < e → getD b g 0 ≡ v → SameTo b s e v (g + 1)
-  word-more g x h t = same-more g 1 x (omega arith) (λ k lo hi. let q : k ≡ g = omega arith in rw q t)
-
-  -- all are the same exactly where the scan reaches the end
-  pub same-all : (r : ℕ) → s ≤ e → SameTo b s e v r → ((r ≡ e → ⊥) → sameIn b v r ≡ false) → eqb r e ≡ allFrom (e - s) s (sameIn b v)
-  unfolding sameIn
-  same-all r h x stop =
+  -- all pass exactly where the scan reaches the end
+  pub pass-all : (r : ℕ) → s ≤ e → PassTo p s e r → ((r ≡ e → ⊥) → p r ≡ false) → eqb r e ≡ allFrom (e - s) s p
+  pass-all r h x stop =
       by-dec (ℕ-discrete r e)
-      (λ q. eq-eqb r e q ∙ sym (at-allFrom (e - s) s (sameIn b v) (λ k lo hi. eq-eqb _ _ (x .same k lo (omega arith)))))
+      (λ q. eq-eqb r e q ∙ sym (at-allFrom (e - s) s p (λ k lo hi. x .pass k lo (omega arith))))
       (λ ne.
-      by-test (allFrom (e - s) s (sameIn b v))
-      (λ t. true-false (sameIn b v r) (allFrom-at (e - s) s (sameIn b v) t r (x .from) (omega (arith, x .to, x .from))) (stop ne))
+      by-test (allFrom (e - s) s p)
+      (λ t. true-false (p r) (allFrom-at (e - s) s p t r (x .from) (omega (arith, x .to, x .from))) (stop ne))
       (λ f. ne-eqb r e ne ∙ sym f))
+
+-- counting up
+
+module _ (b : List ℕ) where
+  -- from s on, seen from a later place
+  pub counts-later : (s v g m : ℕ) → s ≤ g → allFrom m g (countsIn b g (v + (g - s))) ≡ allFrom m g (countsIn b s v)
+  unfolding countsIn
+  counts-later s v g m h =
+      by-test (allFrom m g (countsIn b s v))
+      (λ t. at-allFrom m g _ (λ k lo hi. same k lo ∙ allFrom-at m g (countsIn b s v) t k lo hi) ∙ sym t)
+      (λ f. let x = some-fails m g (countsIn b s v) f in
+      by-test (allFrom m g (countsIn b g (v + (g - s))))
+      (λ t. true-false _ (allFrom-at m g _ t (x .0) (x .1) (x .2)) (same (x .0) (x .1) ∙ x .3))
+      (λ y. y ∙ sym f))
+    where
+      same : (k : ℕ) → g ≤ k → eqb (getD b k 0) (v + (g - s) + (k - g)) ≡ eqb (getD b k 0) (v + (k - s))
+      same k lo = let q : v + (g - s) + (k - g) ≡ v + (k - s) = omega arith in rw q
+
+  pub counts-one : (at v j r : ℕ) → r ≡ one-if (eqb (getD b (at + j) 0) (v + j)) → r ≡ one-if (countsIn b at v (at + j))
+  unfolding countsIn
+  counts-one at v j r e = let q : at + j - at ≡ j = omega arith in rw q e
+
+  pub is-next : (s v g : ℕ) → getD b g 0 ≡ v + (g - s) → countsIn b s v g ≡ true
+  unfolding countsIn
+  is-next s v g e = eq-eqb _ _ e
+
+  pub not-next : (s v g : ℕ) → (getD b g 0 ≡ v + (g - s) → ⊥) → countsIn b s v g ≡ false
+  unfolding countsIn
+  not-next s v g e = ne-eqb _ _ e
+
+  pub one-word : (v g r : ℕ) → r ≡ one-if (eqb (getD b g 0) v) → r ≡ one-if (sameIn b v g)
+  unfolding sameIn
+  one-word v g r e = e

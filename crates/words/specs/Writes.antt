@@ -1,6 +1,6 @@
 -- Runs of words of a list, said of single words.
 use mathlib.Core.Path.{_≡_}
-use mathlib.Core.Bool.{Bool}
+use mathlib.Core.Bool.{Bool, true}
 use mathlib.Core.List.{List}
 use Prim.Native.Nat.{ℕ, _+_, _-_, _<_, _≤_}
 use lib.Dec.{eqb}
@@ -10,11 +10,15 @@ use lib.ListN.{getD}
 unfoldable pub sameIn : List ℕ → ℕ → ℕ → Bool
 sameIn b v g = eqb (getD b g 0) v
 
--- the words from s up to r, r left out and at most e, are v
-pub record SameTo (b : List ℕ) (s e v r : ℕ) : Type 0 where
+-- the word at g is v + (g - s)
+unfoldable pub countsIn : List ℕ → ℕ → ℕ → ℕ → Bool
+countsIn b s v g = eqb (getD b g 0) (v + (g - s))
+
+-- s, s + 1, .. up to r, r left out and at most e, pass
+pub record PassTo (p : ℕ → Bool) (s e r : ℕ) : Type 0 where
   pub from : s ≤ r
   pub to : r ≤ e
-  pub same : (g : ℕ) → s ≤ g → g < r → getD b g 0 ≡ v
+  pub pass : (g : ℕ) → s ≤ g → g < r → p g ≡ true
 
 -- the words from s up to e, e left out, are v, and every other is as it was
 pub record Filled (b : List ℕ) (s e v : ℕ) (b′ : List ℕ) : Type 0 where

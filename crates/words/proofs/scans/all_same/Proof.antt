@@ -1,5 +1,5 @@
 use native.Mathlib.Omega.{arith}
-use Rattle.words.proofs.ScanLaws.{same-all}
+use Rattle.words.proofs.ScanLaws.{pass-all}
 use borrow.Author.Needs.{needs}
 use Rattle.words.proofs.scans.all_same.Statement.{statement}
 use Rattle.words.proofs.scans.all_same.Tie as tie
@@ -13,7 +13,7 @@ same-to-requires c κs = search needs
 
 -- src/scans.rt:69:1
 returns : tie.Need-returns
-returns c = same-all _ _ _ _ _ (omega arith) (c .same-to .ensures .0) (c .same-to .ensures .1)
+returns c = pass-all _ _ _ _ (omega arith) (c .same-to .ensures .0) (c .same-to .ensures .1)
 
 pub all-same-spec : {M : Type 1} → statement M
 all-same-spec = tie.close (tie.spec same-to-requires returns)

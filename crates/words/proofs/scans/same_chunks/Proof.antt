@@ -2,8 +2,8 @@ use mathlib.Core.Path.{sym, _∙_}
 use Prim.Native.Nat.{_-_}
 use native.Mathlib.Omega.{arith}
 use borrow.Author.Tests.{not-false}
-use Rattle.words.specs.Writes.{SameTo}
-use Rattle.words.proofs.ScanLaws.{same-none, chunk-more}
+use Rattle.words.specs.Writes.{sameIn, PassTo}
+use Rattle.words.proofs.ScanLaws.{pass-none, pass-chunk}
 use borrow.Author.Needs.{needs}
 use Rattle.words.proofs.scans.same_chunks.Statement.{statement}
 use Rattle.words.proofs.scans.same_chunks.Tie as tie
@@ -12,14 +12,14 @@ use Rattle.words.proofs.scans.same_chunks.Lts as lts
 use Rattle.words.proofs.scans.chunk_same.Reads as chunk-same-reads
 
 abbrev Inv-loop : tie.InvT-loop
-Inv-loop words from end v g₀ g = SameTo words from end v g
+Inv-loop words from end v g₀ g = PassTo (sameIn words v) from end g
 
 abbrev μ-loop : tie.MeasureT-loop
 μ-loop words from end v g₀ g = end - g
 
 -- src/scans.rt:42:5
 loop-holds : tie.Need-loop-holds Inv-loop μ-loop
-loop-holds c = same-none _ _ _ _ (omega arith)
+loop-holds c = pass-none _ _ _ (omega arith)
 
 -- src/scans.rt:42:17
 sub-loop : tie.Need-sub-loop Inv-loop μ-loop
@@ -43,7 +43,7 @@ loop-less c = search needs
 
 -- src/scans.rt:42:5
 loop-again : tie.Need-loop-again Inv-loop μ-loop
-loop-again c = chunk-more _ _ _ _ _ 16 (c .before .before .before .loop .inv) (omega (arith, c .before .before .before .loop .inv .to)) (sym (c .before .chunk-same .ensures) ∙ not-false _ (c .if1 .left))
+loop-again c = pass-chunk _ _ _ _ 16 (c .before .before .before .loop .inv) (omega (arith, c .before .before .before .loop .inv .to)) (sym (c .before .chunk-same .ensures) ∙ not-false _ (c .if1 .left))
 
 -- src/scans.rt:36:1
 returns-2 : tie.Need-returns-2 Inv-loop μ-loop

@@ -1,8 +1,8 @@
 use Prim.Native.Nat.{_-_}
 use native.Mathlib.Omega.{arith}
-use Rattle.words.specs.Writes.{SameTo}
-use Rattle.words.proofs.WriteLaws.{is-other}
-use Rattle.words.proofs.ScanLaws.{word-more}
+use Rattle.words.specs.Writes.{sameIn, PassTo}
+use Rattle.words.proofs.WriteLaws.{is-same, is-other}
+use Rattle.words.proofs.ScanLaws.{pass-one}
 use borrow.Author.Needs.{needs}
 use Rattle.words.proofs.scans.same_to.Statement.{statement}
 use Rattle.words.proofs.scans.same_to.Tie as tie
@@ -11,7 +11,7 @@ use Rattle.words.proofs.scans.same_to.Lts as lts
 use Rattle.words.proofs.scans.same_chunks.Reads as same-chunks-reads
 
 abbrev Inv-loop : tie.InvT-loop
-Inv-loop words from end v g₀ g = SameTo words from end v g
+Inv-loop words from end v g₀ g = PassTo (sameIn words v) from end g
 
 abbrev μ-loop : tie.MeasureT-loop
 μ-loop words from end v g₀ g = end - g
@@ -46,7 +46,7 @@ loop-less c = search needs
 
 -- src/scans.rt:59:5
 loop-again : tie.Need-loop-again Inv-loop μ-loop
-loop-again c = word-more _ _ _ _ _ (c .before .before .before .loop .inv) (omega arith) (c .if1 .left)
+loop-again c = pass-one _ _ _ _ (c .before .before .before .loop .inv) (omega arith) (is-same _ _ _ (c .if1 .left))
 
 -- src/scans.rt:52:1
 returns-2 : tie.Need-returns-2 Inv-loop μ-loop
