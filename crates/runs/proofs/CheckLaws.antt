@@ -16,9 +16,9 @@ use Rattle.words.proofs.Cases.{by-test, by-dec, true-false, and-true, true-and}
 use Rattle.words.proofs.CountLaws.{one-if-le}
 use Rattle.runs.specs.PageWords.{mapped, rangeBit, frameIn, rightsIn}
 use Rattle.runs.specs.Walk.{joins, goesOn, wordBefore, runBefore, bitWord, withBits, ended, entryOf, entries, rangeWords, same, lawfulRanges}
-use Rattle.runs.specs.Steps.{Decides, EndFits, WordFits, zeroFrom}
-use Rattle.runs.proofs.WordLaws.{joins-at, goes-join, goes-new, bit-none, of-bit, bit-zero, zero-word, mapped-word, word-cases, lawful-word, own-bit}
-use Rattle.runs.proofs.StepLaws.{Walked, walk-start, run-le, at-length, Left, left-step, left-end, left-room, walk-step, stops-step, stops-end, bit-run, walk-end}
+use Rattle.runs.specs.Steps.{Empty, Onward, Decides, EndFits, WordFits, zeroFrom}
+use Rattle.runs.proofs.WordLaws.{zero-unmapped, ahead, joins-at, goes-join, goes-new, bit-none, of-bit, bit-zero, zero-word, mapped-word, word-cases, lawful-word, own-bit}
+use Rattle.runs.proofs.StepLaws.{walk-empty, walk-onward, Walked, walk-start, run-le, at-length, Left, left-step, left-end, left-room, walk-step, stops-step, stops-end, bit-run, walk-end}
 use Rattle.runs.proofs.WalkLaws.{goes-zero, before-le, whole, whole-step, bit-at, withBits-at, length-withBits, ended-short, ended-long, ended-on, length-entry, last-mapped, last-none, before-word}
 
 pub same-refl : (xs : List ℕ) → same xs xs ≡ true
@@ -215,6 +215,22 @@ module _ (ws rs : List ℕ) (i n v at : ℕ) (s : Checking ws rs i n v at) where
             (λ t. absurd (omega (arith, goes-new n v w (sym o ∙ t), one-if-le (mapped w)))));
       }
 
+  -- over a stretch
+  pub check-onward : (k : ℕ) → mapped v ≡ true → Onward ws i v k → Checking ws rs (i + k) (n + k) (v + k) at
+  check-onward k m o = record {
+    walked = walk-onward ws rs i n v at k m (s .walked) o;
+    settled = λ q lt. s .settled q (omega arith);
+    running = λ q lo hi.
+        let a = ahead v k m (o .frames) in
+        by-dec (decLt q i)
+        (λ before. s .running q (omega arith) before ∙ ap (λ (b : Bool). bitWord b (getD ws q 0)) (sym (a .bit)))
+        (λ here.
+        let frames = o .frames in
+        let w : getD ws q 0 ≡ v + (q - i + 1) = let e : i + (q - i) ≡ q = omega arith in rw e at (o .next (q - i) (omega arith)) in
+        let b = ahead v (q - i + 1) m (omega arith) in
+        rw w (own-bit _ (mapped-word _ (b .maps)) ∙ ap (λ (x : Bool). bitWord x (v + (q - i + 1))) (b .bit ∙ sym (a .bit))));
+  }
+
   -- Of a lawful space every test holds
   module _ (pages : ws ≡ withBits ws) where
     word-at : (q : ℕ) → q < 1024 → getD ws q 0 ≡ bit-at ws q
@@ -294,6 +310,19 @@ module _ (ws rs : List ℕ) (i n v at : ℕ) (s : Checking ws rs i n v at) where
     where
       words : EndFits rs false at i n v → zeroFrom rs (at + length (ended false i n v)) ≡ rangeWords ws
       words f = walk-end _ _ _ _ _ _ (s .walked) rs _ h refl (s .walked .table) (taken-more false (end-room h) f)
+
+pub check-empty : (ws rs : List ℕ) (i at k : ℕ) → Checking ws rs i 0 0 at → Empty ws i k → Checking ws rs (i + k) 0 0 at
+unfolding bit-at
+check-empty ws rs i at k s e = record {
+  walked = walk-empty ws rs i at k (s .walked) e;
+  settled = λ q lt.
+      by-dec (decLt q i)
+      (λ before. s .settled q (omega arith))
+      (λ here.
+      let z : getD ws q 0 ≡ 0 = e .zero q (omega arith) (omega arith) in
+      z ∙ sym (bit-none _ (getD ws q 0) (zero-unmapped _ z)));
+  running = λ q lo hi. absurd (omega arith);
+}
 
 -- a test that failed
 pub refuted : (ws rs : List ℕ) → (ws ≡ withBits ws → rs ≡ rangeWords ws → ⊥) → false ≡ lawfulRanges ws rs

@@ -12,11 +12,11 @@ use lib.Seq.{ext-getD, getD-set-same, getD-set-other, sets, sets-eq, length-sets
 use borrow.Author.Tests.{le-leb, lt-leb}
 use Rattle.words.proofs.Cases.{by-test, by-dec}
 use Rattle.words.proofs.CountLaws.{one-if-le}
-use Rattle.runs.specs.PageWords.{mapped}
+use Rattle.runs.specs.PageWords.{mapped, rangeBit}
 use Rattle.runs.specs.Walk.{joins, goesOn, runBefore, bitWord, withBits, ended, entryOf, rangeWords}
-use Rattle.runs.specs.Steps.{Marked, zeroFrom, markedPages, EndedRun}
-use Rattle.runs.proofs.WordLaws.{bit-none, bit-bit, goes-join, goes-new}
-use Rattle.runs.proofs.StepLaws.{next-on, next-short, next-long, Walked, walk-start, run-le, at-length, left-step, left-end, left-room, walk-step, stops-step, stops-end, bit-run, walk-end}
+use Rattle.runs.specs.Steps.{Empty, Onward, Marked, zeroFrom, markedPages, EndedRun}
+use Rattle.runs.proofs.WordLaws.{zero-unmapped, mapped-word, own-bit, ahead, bit-none, bit-bit, goes-join, goes-new}
+use Rattle.runs.proofs.StepLaws.{walk-empty, walk-onward, next-on, next-short, next-long, Walked, walk-start, run-le, at-length, left-step, left-end, left-room, walk-step, stops-step, stops-end, bit-run, walk-end}
 use Rattle.runs.proofs.WalkLaws.{goes-zero, whole, bit-at, withBits-at, length-withBits, ended-short, ended-long, ended-on}
 
 -- Marking, word by word
@@ -179,6 +179,24 @@ module _ (ws xs rs : List ℕ) (i n v at : ℕ) (s : Renewing ws xs rs i n v at)
         waiting = λ q le′. other q (omega arith) ∙ r .pages .above q (omega (arith, marked-le on n)) ∙ s .waiting q (omega arith);
       }
 
+  -- over a stretch whose words stay: pages without a range bit that go on the run
+  pub renew-onward : (k : ℕ) → mapped v ≡ true → rangeBit v ≡ false → Onward xs i v k → Renewing ws xs rs (i + k) (n + k) (v + k) at
+  renew-onward k m off o =
+      let same : (j : ℕ) → j < k → getD ws (i + j) 0 ≡ v + (j + 1) = λ j h. sym (s .waiting (i + j) (omega arith)) ∙ o .next j h in
+      record {
+        walked = walk-onward ws rs i n v at k m (s .walked) (record { room = o .room; frames = o .frames; next = same });
+        room = s .room;
+        settled = λ q lt. s .settled q (omega arith);
+        running = λ q lo hi.
+            by-dec (decLt q i) (λ before. s .running q (omega arith) before)
+            (λ here.
+            let frames = o .frames in
+            let w : getD ws q 0 ≡ v + (q - i + 1) = let e : i + (q - i) ≡ q = omega arith in rw e at (same (q - i) (omega arith)) in
+            let b = ahead v (q - i + 1) m (omega arith) in
+            s .waiting q (omega arith) ∙ rw w (own-bit _ (mapped-word _ (b .maps)) ∙ ap (λ (x : Bool). bitWord x (v + (q - i + 1))) (b .bit ∙ off)));
+        waiting = λ q le. s .waiting q (omega arith);
+      }
+
   -- the end
   pub renew-pages : (xs′ rs′ : List ℕ) (at′ : ℕ) → i ≡ 1024 → length xs′ ≡ 1024 → EndedRun xs rs false at i n v at′ xs′ rs′ → xs′ ≡ withBits ws
   renew-pages xs′ rs′ at′ e len r =
@@ -191,3 +209,21 @@ module _ (ws xs rs : List ℕ) (i n v at : ℕ) (s : Renewing ws xs rs i n v at)
 
   pub renew-place : (xs′ rs′ : List ℕ) (at′ : ℕ) → i ≡ 1024 → EndedRun xs rs false at i n v at′ xs′ rs′ → at′ ≤ length rs′
   renew-place xs′ rs′ at′ e r = omega (arith, r .place, room-end e, kept rs′ (ended false i n v) (r .table))
+
+-- over unmapped pages
+pub renew-empty : (ws xs rs : List ℕ) (i at k : ℕ) → Renewing ws xs rs i 0 0 at → Empty xs i k → Renewing ws xs rs (i + k) 0 0 at
+unfolding bit-at
+renew-empty ws xs rs i at k s e =
+    let none : (q : ℕ) → i ≤ q → q < i + k → getD ws q 0 ≡ 0 = λ q lo hi. sym (s .waiting q lo) ∙ e .zero q lo hi in
+    record {
+      walked = walk-empty ws rs i at k (s .walked) (record { room = e .room; zero = none });
+      room = s .room;
+      settled = λ q lt.
+          by-dec (decLt q i)
+          (λ before. s .settled q (omega arith))
+          (λ here.
+          let z : getD ws q 0 ≡ 0 = none q (omega arith) (omega arith) in
+          e .zero q (omega arith) (omega arith) ∙ sym (bit-none _ (getD ws q 0) (zero-unmapped _ z)));
+      running = λ q lo hi. absurd (omega arith);
+      waiting = λ q le. s .waiting q (omega arith);
+    }

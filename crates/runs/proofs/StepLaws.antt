@@ -2,15 +2,19 @@
 use mathlib.Core.Path.{_≡_, refl, ap, ap₂, _∙_, sym}
 use mathlib.Core.Bool.{Bool, true, false}
 use mathlib.Core.List.{List, [], _++_, append-assoc, append-nil}
-use Prim.Native.Nat.{ℕ, suc, _+_, _-_, _<_, _≤_, zero-le}
+use Prim.Native.Nat.{ℕ, zero, suc, _+_, _-_, _<_, _≤_, zero-le}
 use native.Mathlib.Nat.{add-zero}
 use native.Mathlib.Numerals.{add-one}
 use native.Mathlib.Omega.{arith}
 use lib.Dec.{leb}
 use lib.ListN.{length, getD, drop, take, replicate, length-append}
 use lib.Seq.{length-take-le}
+use Rattle.words.specs.Counts.{one-if}
+use Rattle.words.proofs.Cases.{true-false}
+use Rattle.runs.specs.PageWords.{mapped}
 use Rattle.runs.specs.Walk.{joins, goesOn, wordBefore, runBefore, bitWord, ended, entriesFrom, entries, rangeWords}
-use Rattle.runs.specs.Steps.{zeroFrom}
+use Rattle.runs.specs.Steps.{zeroFrom, Empty, Onward}
+use Rattle.runs.proofs.WordLaws.{zero-unmapped, join, not-joins, goes-join, goes-new, ahead-joins}
 use Rattle.runs.proofs.WalkLaws.{before-suc, before-le, whole, whole-end, whole-last, bit-at, bit-ended, entries-suc, entries-end, ended-short, ended-long, ended-on, length-entry, entries-few}
 
 -- the place of the next entry, in the three ways that a run goes
@@ -110,3 +114,33 @@ module _ (ws rs : List ℕ) (i n v at : ℕ) (s : Walked ws rs i n v at) where
       let all : take at′ rs′ ≡ entries ws = t ∙ ap (λ (l : List ℕ). take at rs ++ l) (sym (x .is ∙ append-nil (ended false i n v))) ∙ sym (s .listed) in
       let len : length (entries ws) ≡ at′ = sym (ap length all) ∙ length-take-le at′ rs′ (omega (arith, left-room false x)) in
       ap₂ (λ (l : List ℕ) (k : ℕ). l ++ replicate k 0) all (ap₂ _-_ l (sym len))
+
+-- Stretches
+
+walked-at : (ws rs : List ℕ) (i j n m v w at : ℕ) → i ≡ j → n ≡ m → v ≡ w → Walked ws rs i n v at → Walked ws rs j m w at
+walked-at ws rs i j n m v w at e f g s = rw (← e, ← f, ← g) s
+
+-- over unmapped pages nothing changes
+pub walk-empty : (ws rs : List ℕ) (i at k : ℕ) → Walked ws rs i 0 0 at → Empty ws i k → Walked ws rs (i + k) 0 0 at
+unfolding one-if
+walk-empty ws rs i at zero s e = walked-at _ _ _ _ _ _ _ _ _ (sym (add-zero i)) refl refl s
+walk-empty ws rs i at (suc k) s e =
+    let room = e .room in
+    let before = walk-empty ws rs i at k s (record { room = omega arith; zero = λ q lo hi. e .zero q lo (omega arith) }) in
+    let none : joins 0 0 ≡ false = sym (not-joins 0 0 (λ j. true-false _ (j .this) (zero-unmapped 0 refl))) in
+    let still : goesOn 0 0 0 ≡ 0 = goes-new 0 0 0 none ∙ ap one-if (zero-unmapped 0 refl) in
+    walked-at _ _ _ _ _ _ _ _ _ (omega arith) refl refl
+    (walk-step _ _ _ _ _ _ before rs (joins 0 0) 0 0 at (omega arith) (sym (e .zero (i + k) (omega arith) (omega arith))) refl (sym still)
+    (next-short (joins 0 0) at (i + k) 0 0 none (omega arith)) (s .table) (rw (none, ended-short (i + k) 0 0 (omega arith)) (sym (append-nil (take at rs)))))
+
+-- over words that count up the run goes on
+pub walk-onward : (ws rs : List ℕ) (i n v at k : ℕ) → mapped v ≡ true → Walked ws rs i n v at → Onward ws i v k → Walked ws rs (i + k) (n + k) (v + k) at
+walk-onward ws rs i n v at zero m s o = walked-at _ _ _ _ _ _ _ _ _ (sym (add-zero i)) (sym (add-zero n)) (sym (add-zero v)) s
+walk-onward ws rs i n v at (suc k) m s o =
+    let room = o .room in
+    let frames = o .frames in
+    let before = walk-onward ws rs i n v at k m s (record { room = omega arith; frames = omega arith; next = λ j h. o .next j (omega arith) }) in
+    let on : joins (v + k) (v + (k + 1)) ≡ true = join _ _ (ahead-joins v k m (omega arith)) in
+    walked-at _ _ _ _ _ _ _ _ _ (omega arith) (omega arith) (omega arith)
+    (walk-step _ _ _ _ _ _ before rs (joins (v + k) (v + (k + 1))) (v + (k + 1)) (n + k + 1) at (omega arith) (sym (o .next k (omega arith))) refl (sym (goes-join (n + k) _ _ on))
+    (next-on _ at (i + k) (n + k) (v + k) on) (s .table) (rw (on, ended-on (i + k) (n + k) (v + k)) (sym (append-nil (take at rs)))))

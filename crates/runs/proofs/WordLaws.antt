@@ -177,3 +177,29 @@ pub made-word : (b : Bool) (r f : ℕ) → r ≤ 7 → f ≤ 4095 → Says (page
 unfolding pageWord rightsIn frameIn one-if
 made-word true r f hr hf = record { maps = is-mapped (65536 + 32768 * 1 + 4096 * r + f) (omega arith); rights = omega arith; frame = omega arith }
 made-word false r f hr hf = record { maps = is-mapped (65536 + 32768 * 0 + 4096 * r + f) (omega arith); rights = omega arith; frame = omega arith }
+
+-- the word k above a mapped one, as long as its frame stays below 4,096
+pub record Ahead (v k : ℕ) : Type 0 where
+  pub maps : mapped (v + k) ≡ true
+  pub frame : frameIn (v + k) ≡ frameIn v + k
+  pub rights : rightsIn (v + k) ≡ rightsIn v
+  pub bit : rangeBit (v + k) ≡ rangeBit v
+
+pub ahead : (v k : ℕ) → mapped v ≡ true → frameIn v + k ≤ 4095 → Ahead v k
+unfolding frameIn rightsIn rangeBit
+ahead v k m h =
+    let top : v / 65536 ≡ 1 = mapped-at v m in
+    let pages : (v + k) / 4096 ≡ v / 4096 = omega arith in
+    record {
+      maps = is-mapped (v + k) (omega arith);
+      frame = omega arith;
+      rights = ap (λ (x : ℕ). x % 8) pages;
+      bit = let half : (v + k) / 32768 ≡ v / 32768 = omega arith in ap (λ (x : ℕ). eqb (x % 2) 1) half;
+    }
+
+-- one goes on the run of the one before
+pub ahead-joins : (v k : ℕ) → mapped v ≡ true → frameIn v + (k + 1) ≤ 4095 → Joins (v + k) (v + (k + 1))
+ahead-joins v k m h =
+    let a = ahead v k m (omega arith) in
+    let b = ahead v (k + 1) m h in
+    record { this = a .maps; next = b .maps; frame = omega (arith, a .frame, b .frame); rights = b .rights ∙ sym (a .rights) }

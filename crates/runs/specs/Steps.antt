@@ -7,13 +7,26 @@ use lib.Dec.{leb}
 use lib.ListN.{length, getD, take, replicate}
 use lib.Seq.{sets}
 use Rattle.words.specs.Tables.{part}
-use Rattle.runs.specs.PageWords.{mapped, rangeBit, isPageWord}
+use Rattle.runs.specs.PageWords.{mapped, rangeBit, frameIn, isPageWord}
 use Rattle.runs.specs.Walk.{bitWord, entryOf, ended}
 
 -- a test that decides a statement
 pub record Decides (r : Bool) (P : Type 0) : Type 0 where
   pub yes : r ≡ true → P
   pub no : r ≡ false → P → ⊥
+
+-- Stretches that a walk passes at once
+
+-- k pages from page i on are unmapped, with the word 0
+pub record Empty (ws : List ℕ) (i k : ℕ) : Type 0 where
+  pub room : i + k ≤ 1024
+  pub zero : (q : ℕ) → i ≤ q → q < i + k → getD ws q 0 ≡ 0
+
+-- k pages from page i on have the words v + 1, v + 2, ..: they go on the run of the mapped word v
+pub record Onward (ws : List ℕ) (i v k : ℕ) : Type 0 where
+  pub room : i + k ≤ 1024
+  pub frames : frameIn v + k ≤ 4095
+  pub next : (j : ℕ) → j < k → getD ws (i + j) 0 ≡ v + (j + 1)
 
 -- Making anew
 
