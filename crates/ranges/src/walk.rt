@@ -1,10 +1,17 @@
-// One step of the walk over page words: w is the word of the next page, v the word before it.
+// Steps of the walk over page words: over one page, w being its word and v the word before it, or over a stretch of pages at once.
 ghost use mathlib.Core.Path.{_≡_};
+ghost use mathlib.Core.Bool.{true};
 ghost use Prim.Native.Nat.{_≤_};
+ghost use lib.ListN.{length};
+ghost use Rattle.runs.specs.PageWords.{mapped};
 ghost use Rattle.runs.specs.Walk.{joins, goesOn};
+ghost use Rattle.runs.specs.Steps.{Empty, Onward};
 use crate::page_words::frame_in;
 use crate::page_words::mapped;
 use crate::page_words::rights_in;
+use runs::Page;
+use words::scans::counts_to;
+use words::scans::same_to;
 
 // Whether w goes on the run of v.
 pub fn joined(v: u32, w: u32) -> bool
@@ -37,4 +44,39 @@ pub fn goes_on(n: u32, v: u32, w: u32) -> u32
         return 1;
     }
     0
+}
+
+fn least(a: u32, b: u32) -> u32
+    ensures { λ r. ⌜ r ≤ a ⌝ }
+    ensures { λ r. ⌜ r ≤ b ⌝ }
+{
+    if a < b {
+        return a;
+    }
+    b
+}
+
+// How many pages from page b on are unmapped, up to the next whose word is not 0.
+pub fn empty_from(part: &[u32], b: Page) -> u32
+    requires { ⌜ length (now part) ≡ 1024 ⌝ }
+    requires { ⌜ b .0 ≤ 1024 ⌝ }
+    ensures { λ r. ⌜ Empty (now (part .entry)) (b .0) r ⌝ }
+{
+    let from = b.0 as usize;
+    let end = same_to(part, from, 1024, 0);
+    (end - from) as u32
+}
+
+// How many pages from page b on go on the run of word v before them, by words that count up from it.
+pub fn onward_from(part: &[u32], b: Page, v: u32) -> u32
+    requires { ⌜ length (now part) ≡ 1024 ⌝ }
+    requires { ⌜ b .0 ≤ 1024 ⌝ }
+    requires { ⌜ mapped v ≡ true ⌝ }
+    ensures { λ r. ⌜ Onward (now (part .entry)) (b .0) v r ⌝ }
+{
+    let f = frame_in(v);
+    let from = b.0 as usize;
+    let most = least(1024 - b.0, 4095 - f.0);
+    let end = counts_to(part, from, from + (most as usize), v + 1);
+    (end - from) as u32
 }

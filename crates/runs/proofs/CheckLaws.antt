@@ -11,6 +11,9 @@ use lib.ListN.{length, getD, drop, take, replicate, length-replicate, length-dro
 use lib.Seq.{drop-cons, ext-getD, getD-drop, take-add, take-at, drop-at, length-take-le, getD-append-add}
 use borrow.Author.Tests.{le-leb, lt-leb, eqb-true, eqb-false, eq-eqb, not-true, not-false}
 use Rattle.words.specs.Tables.{part}
+use Rattle.words.specs.Searches.{allFrom}
+use Rattle.words.specs.Writes.{sameIn}
+use Rattle.words.proofs.SearchLaws.{allFrom-at, some-fails}
 use Rattle.words.specs.Wrapping.{wrapSub}
 use Rattle.words.proofs.Cases.{by-test, by-dec, true-false, and-true, true-and}
 use Rattle.words.proofs.CountLaws.{one-if-le}
@@ -128,7 +131,7 @@ end-on rs on at b n v t = record { bit = λ f. true-false on t f; entry = λ f. 
 pub end-wrong : (rs : List ℕ) (on : Bool) (at b n v : ℕ) → 8 ≤ n → rangeBit v ≡ false → on ≡ false → EndFits rs on at b n v → ⊥
 end-wrong rs on at b n v h f o p = true-false (rangeBit v) (p .bit o ∙ le-leb 8 n h) f
 
-pub zeros-end : (rs : List ℕ) (at j : ℕ) → at ≤ length rs → length rs ≤ j → ((q : ℕ) → at ≤ q → q < j → getD rs q 0 ≡ 0) → rs ≡ zeroFrom rs at
+zeros-end : (rs : List ℕ) (at j : ℕ) → at ≤ length rs → length rs ≤ j → ((q : ℕ) → at ≤ q → q < j → getD rs q 0 ≡ 0) → rs ≡ zeroFrom rs at
 unfolding zeroFrom
 zeros-end rs at j lo e h =
     let z : drop at rs ≡ replicate (length rs - at) 0 =
@@ -138,7 +141,7 @@ zeros-end rs at j lo e h =
     in
     sym (take-append-drop at rs) ∙ ap (λ (l : List ℕ). take at rs ++ l) z
 
-pub zeros-no : (rs : List ℕ) (at j : ℕ) → at ≤ j → j < length rs → (getD rs j 0 ≡ 0 → ⊥) → rs ≡ zeroFrom rs at → ⊥
+zeros-no : (rs : List ℕ) (at j : ℕ) → at ≤ j → j < length rs → (getD rs j 0 ≡ 0 → ⊥) → rs ≡ zeroFrom rs at → ⊥
 unfolding zeroFrom
 zeros-no rs at j lo hi ne e =
     let l : length (take at rs) ≡ at = length-take-le at rs (omega arith) in
@@ -148,8 +151,16 @@ zeros-no rs at j lo hi ne e =
     in
     ne (ap (λ (x : List ℕ). getD x j 0) e ∙ g)
 
-pub zeros-more : (rs : List ℕ) (at j : ℕ) → getD rs j 0 ≡ 0 → ((q : ℕ) → at ≤ q → q < j → getD rs q 0 ≡ 0) → (q : ℕ) → at ≤ q → q < j + 1 → getD rs q 0 ≡ 0
-zeros-more rs at j z h q lo hi = by-dec (ℕ-discrete q j) (λ e. rw e z) (λ ne. h q lo (omega arith))
+pub zeros-all : (rs : List ℕ) (at : ℕ) (r : Bool) → at ≤ length rs → r ≡ allFrom (length rs - at) at (sameIn rs 0) → Decides r (rs ≡ zeroFrom rs at)
+unfolding sameIn
+zeros-all rs at r h e = record {
+  yes = λ t. zeros-end rs at (length rs) h (omega arith) (λ q lo hi. eqb-true _ _ (allFrom-at (length rs - at) at (sameIn rs 0) (sym e ∙ t) q lo (omega arith)));
+  no = λ f.
+      let x = some-fails (length rs - at) at (sameIn rs 0) (sym e ∙ f) in
+      let lo = x .1 in
+      let hi = x .2 in
+      zeros-no rs at (x .0) lo (omega arith) (eqb-false _ _ (x .3));
+}
 
 -- The walk at page i: the pages before the run are settled, those of the run have the range bit of the last
 pub record Checking (ws rs : List ℕ) (i n v at : ℕ) : Type 0 where

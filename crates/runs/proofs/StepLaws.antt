@@ -9,12 +9,14 @@ use native.Mathlib.Omega.{arith}
 use lib.Dec.{leb}
 use lib.ListN.{length, getD, drop, take, replicate, length-append}
 use lib.Seq.{length-take-le}
+use borrow.Author.Tests.{eqb-true}
 use Rattle.words.specs.Counts.{one-if}
+use Rattle.words.specs.Writes.{sameIn, countsIn, PassTo}
 use Rattle.words.proofs.Cases.{true-false}
-use Rattle.runs.specs.PageWords.{mapped}
+use Rattle.runs.specs.PageWords.{mapped, frameIn}
 use Rattle.runs.specs.Walk.{joins, goesOn, wordBefore, runBefore, bitWord, ended, entriesFrom, entries, rangeWords}
 use Rattle.runs.specs.Steps.{zeroFrom, Empty, Onward}
-use Rattle.runs.proofs.WordLaws.{zero-unmapped, join, not-joins, goes-join, goes-new, ahead-joins}
+use Rattle.runs.proofs.WordLaws.{frame-lt, zero-unmapped, join, not-joins, goes-join, goes-new, ahead-joins}
 use Rattle.runs.proofs.WalkLaws.{before-suc, before-le, whole, whole-end, whole-last, bit-at, bit-ended, entries-suc, entries-end, ended-short, ended-long, ended-on, length-entry, entries-few}
 
 -- the place of the next entry, in the three ways that a run goes
@@ -144,3 +146,21 @@ walk-onward ws rs i n v at (suc k) m s o =
     walked-at _ _ _ _ _ _ _ _ _ (omega arith) (omega arith) (omega arith)
     (walk-step _ _ _ _ _ _ before rs (joins (v + k) (v + (k + 1))) (v + (k + 1)) (n + k + 1) at (omega arith) (sym (o .next k (omega arith))) refl (sym (goes-join (n + k) _ _ on))
     (next-on _ at (i + k) (n + k) (v + k) on) (s .table) (rw (on, ended-on (i + k) (n + k) (v + k)) (sym (append-nil (take at rs)))))
+
+-- what the scans show
+pub empty-scanned : (ws : List ℕ) (i r : ℕ) → PassTo (sameIn ws 0) i 1024 r → Empty ws i (r - i)
+unfolding sameIn
+empty-scanned ws i r x = record { room = omega (arith, x .from, x .to); zero = λ q lo hi. eqb-true _ _ (x .pass q lo (omega arith)) }
+
+pub onward-scanned : (ws : List ℕ) (i v most r : ℕ) → i ≤ 1024 → most ≤ 1024 - i → most ≤ 4095 - frameIn v → PassTo (countsIn ws i (v + 1)) i (i + most) r → Onward ws i v (r - i)
+unfolding countsIn
+onward-scanned ws i v most r h room low x =
+    let to = x .to in
+    let from = x .from in
+    record {
+      room = omega arith;
+      frames = omega (arith, frame-lt v);
+      next = λ j lt.
+          let sum : v + 1 + (i + j - i) ≡ v + (j + 1) = omega arith in
+          eqb-true _ _ (x .pass (i + j) (omega arith) (omega arith)) ∙ sum;
+    }

@@ -18,6 +18,9 @@ mapped-at : (w : ℕ) → mapped w ≡ true → w / 65536 ≡ 1
 unfolding mapped
 mapped-at w t = eqb-true _ _ t
 
+pub mapped-lt : (w : ℕ) → mapped w ≡ true → w < 131072
+mapped-lt w t = omega (arith, mapped-at w t)
+
 pub zero-unmapped : (w : ℕ) → w ≡ 0 → mapped w ≡ false
 unfolding mapped
 zero-unmapped w e = ne-eqb (w / 65536) 1 (omega arith)
