@@ -1,16 +1,24 @@
 // Range bits and range words made anew.
 ghost use mathlib.Core.Path.{_≡_};
+ghost use mathlib.Core.Bool.{true};
 ghost use Prim.Native.Nat.{_+_, _≤_};
 ghost use lib.ListN.{length};
 ghost use lib.Seq.{sets};
+ghost use Rattle.runs.specs.PageWords.{rangeBit};
 ghost use Rattle.runs.specs.Walk.{entryOf, ended, withBits, rangeWords};
-ghost use Rattle.runs.specs.Steps.{Marked, EndedRun, zeroFrom};
+ghost use Rattle.runs.specs.Steps.{Along, Marked, EndedRun, zeroFrom};
 use crate::page_words::bit_word;
 use crate::page_words::frame_in;
+use crate::page_words::mapped;
 use crate::page_words::offset;
+use crate::page_words::range_bit;
 use crate::page_words::rights_in;
+use crate::walk::Stretch;
 use crate::walk::goes_on;
 use crate::walk::joined;
+use crate::walk::nowhere;
+use crate::walk::onward_from;
+use crate::walk::over_empty;
 use runs::Page;
 
 // Sets the range bit of n pages from page a on.
@@ -81,6 +89,31 @@ fn zero_from(ranges: &mut [u32], at: usize)
     }
 }
 
+// The pages from page b on, after word w, whose words stay as they are while the run of w lasts: unmapped ones, or those of a run without the range bit.
+fn over_kept(part: &[u32], b: Page, w: u32) -> Stretch
+    requires { ⌜ length (now part) ≡ 1024 ⌝ }
+    requires { ⌜ b .0 ≤ 1024 ⌝ }
+    ensures { λ r. ⌜ Along (now (part .entry)) (b .0) w (r .pages) (r .mapped) ⌝ }
+    ensures { λ r. ⌜ r .last ≡ w + r .mapped ⌝ }
+    ensures { λ r. ⌜ (rangeBit w ≡ true → r .pages ≡ 0) ⌝ }
+{
+    if w == 0 {
+        return over_empty(part, b);
+    }
+    if !mapped(w) {
+        return nowhere(w);
+    }
+    if range_bit(w) {
+        return nowhere(w);
+    }
+    let pages = onward_from(part, b, w);
+    Stretch {
+        pages,
+        mapped: pages,
+        last: w + pages,
+    }
+}
+
 // Makes a space's range bits and range words anew from its frames and rights.
 pub fn renew(part: &mut [u32], ranges: &mut [u32])
     requires { ⌜ length (now part) ≡ 1024 ⌝ }
@@ -97,9 +130,10 @@ pub fn renew(part: &mut [u32], ranges: &mut [u32])
         let on = joined(v, w);
         at = end_run(part, ranges, on, at, Page(i), n, v);
         part[i as usize] = bit_word(false, w);
-        n = goes_on(n, v, w);
-        v = w;
-        i += 1;
+        let kept = over_kept(part, Page(i + 1), w);
+        n = goes_on(n, v, w) + kept.mapped;
+        v = kept.last;
+        i += 1 + kept.pages;
     }
     at = end_run(part, ranges, false, at, Page(1024), n, v);
     zero_from(ranges, at);

@@ -1,7 +1,7 @@
 // Steps of the walk over page words: over one page, w being its word and v the word before it, or over a stretch of pages at once.
 ghost use mathlib.Core.Path.{_≡_};
 ghost use mathlib.Core.Bool.{true};
-ghost use Prim.Native.Nat.{_≤_};
+ghost use Prim.Native.Nat.{_+_, _≤_};
 ghost use lib.ListN.{length};
 ghost use Rattle.runs.specs.PageWords.{mapped};
 ghost use Rattle.runs.specs.Walk.{joins, goesOn};
@@ -56,17 +56,6 @@ fn least(a: u32, b: u32) -> u32
     b
 }
 
-// How many pages from page b on are unmapped, up to the next whose word is not 0.
-pub fn empty_from(part: &[u32], b: Page) -> u32
-    requires { ⌜ length (now part) ≡ 1024 ⌝ }
-    requires { ⌜ b .0 ≤ 1024 ⌝ }
-    ensures { λ r. ⌜ Empty (now (part .entry)) (b .0) r ⌝ }
-{
-    let from = b.0 as usize;
-    let end = same_to(part, from, 1024, 0);
-    (end - from) as u32
-}
-
 // How many pages from page b on go on the run of word v before them, by words that count up from it.
 pub fn onward_from(part: &[u32], b: Page, v: u32) -> u32
     requires { ⌜ length (now part) ≡ 1024 ⌝ }
@@ -79,4 +68,39 @@ pub fn onward_from(part: &[u32], b: Page, v: u32) -> u32
     let most = least(1024 - b.0, 4095 - f.0);
     let end = counts_to(part, from, from + (most as usize), v + 1);
     (end - from) as u32
+}
+
+// A stretch of pages that a walk passes at once, how many of them are mapped, all or none, and the word before its end.
+pub struct Stretch {
+    pub pages: u32,
+    pub mapped: u32,
+    pub last: u32,
+}
+
+// No page after word w.
+pub fn nowhere(w: u32) -> Stretch
+    ensures { λ r. ⌜ (r .pages ≡ 0) × (r .mapped ≡ 0) ⌝ }
+    ensures { λ r. ⌜ r .last ≡ w + r .mapped ⌝ }
+{
+    Stretch {
+        pages: 0,
+        mapped: 0,
+        last: w,
+    }
+}
+
+// The unmapped pages from page b on, after a word 0.
+pub fn over_empty(part: &[u32], b: Page) -> Stretch
+    requires { ⌜ length (now part) ≡ 1024 ⌝ }
+    requires { ⌜ b .0 ≤ 1024 ⌝ }
+    ensures { λ r. ⌜ Empty (now (part .entry)) (b .0) (r .pages) ⌝ }
+    ensures { λ r. ⌜ (r .mapped ≡ 0) × (r .last ≡ 0) ⌝ }
+{
+    let from = b.0 as usize;
+    let end = same_to(part, from, 1024, 0);
+    Stretch {
+        pages: (end - from) as u32,
+        mapped: 0,
+        last: 0,
+    }
 }

@@ -19,9 +19,9 @@ use Rattle.words.proofs.Cases.{by-test, by-dec, true-false, and-true, true-and}
 use Rattle.words.proofs.CountLaws.{one-if-le}
 use Rattle.runs.specs.PageWords.{mapped, rangeBit, frameIn, rightsIn}
 use Rattle.runs.specs.Walk.{joins, goesOn, wordBefore, runBefore, bitWord, withBits, ended, entryOf, entries, rangeWords, same, lawfulRanges}
-use Rattle.runs.specs.Steps.{Empty, Onward, Decides, EndFits, WordFits, zeroFrom}
+use Rattle.runs.specs.Steps.{Empty, Onward, Along, nowhere, empty, onward, Decides, EndFits, WordFits, zeroFrom}
 use Rattle.runs.proofs.WordLaws.{zero-unmapped, ahead, joins-at, goes-join, goes-new, bit-none, of-bit, bit-zero, zero-word, mapped-word, word-cases, lawful-word, own-bit}
-use Rattle.runs.proofs.StepLaws.{walk-empty, walk-onward, Walked, walk-start, run-le, at-length, Left, left-step, left-end, left-room, walk-step, stops-step, stops-end, bit-run, walk-end}
+use Rattle.runs.proofs.StepLaws.{walk-empty, walk-onward, run-none, Walked, walk-start, run-le, at-length, Left, left-step, left-end, left-room, walk-step, stops-step, stops-end, bit-run, walk-end}
 use Rattle.runs.proofs.WalkLaws.{goes-zero, before-le, whole, whole-step, bit-at, withBits-at, length-withBits, ended-short, ended-long, ended-on, length-entry, last-mapped, last-none, before-word}
 
 pub same-refl : (xs : List ℕ) → same xs xs ≡ true
@@ -227,7 +227,7 @@ module _ (ws rs : List ℕ) (i n v at : ℕ) (s : Checking ws rs i n v at) where
       }
 
   -- over a stretch
-  pub check-onward : (k : ℕ) → mapped v ≡ true → Onward ws i v k → Checking ws rs (i + k) (n + k) (v + k) at
+  check-onward : (k : ℕ) → mapped v ≡ true → Onward ws i v k → Checking ws rs (i + k) (n + k) (v + k) at
   check-onward k m o = record {
     walked = walk-onward ws rs i n v at k m (s .walked) o;
     settled = λ q lt. s .settled q (omega arith);
@@ -322,7 +322,7 @@ module _ (ws rs : List ℕ) (i n v at : ℕ) (s : Checking ws rs i n v at) where
       words : EndFits rs false at i n v → zeroFrom rs (at + length (ended false i n v)) ≡ rangeWords ws
       words f = walk-end _ _ _ _ _ _ (s .walked) rs _ h refl (s .walked .table) (taken-more false (end-room h) f)
 
-pub check-empty : (ws rs : List ℕ) (i at k : ℕ) → Checking ws rs i 0 0 at → Empty ws i k → Checking ws rs (i + k) 0 0 at
+check-empty : (ws rs : List ℕ) (i at k : ℕ) → Checking ws rs i 0 0 at → Empty ws i k → Checking ws rs (i + k) 0 0 at
 unfolding bit-at
 check-empty ws rs i at k s e = record {
   walked = walk-empty ws rs i at k (s .walked) e;
@@ -334,6 +334,16 @@ check-empty ws rs i at k s e = record {
       z ∙ sym (bit-none _ (getD ws q 0) (zero-unmapped _ z)));
   running = λ q lo hi. absurd (omega arith);
 }
+
+pub check-along : (ws rs : List ℕ) (i n v at p m j w : ℕ) → Checking ws rs i n v at → Along ws i v p m → j ≡ i + p → w ≡ v + m → Checking ws rs j (n + m) w at
+check-along ws rs i n v at p m j w s along e f = rw (e, f) (go p m along)
+  where
+    go : (p m : ℕ) → Along ws i v p m → Checking ws rs (i + p) (n + m) (v + m) at
+    go p m nowhere = rw (add-zero i, add-zero n, add-zero v) s
+    go p m (empty z e) =
+        let none : n ≡ 0 = run-none _ _ _ _ _ _ (s .walked) z in
+        rw (none, z) (check-empty ws rs i at p (rw (none, z) at s) e)
+    go p m (onward t o) = check-onward ws rs i n v at s p t o
 
 -- a test that failed
 pub refuted : (ws rs : List ℕ) → (ws ≡ withBits ws → rs ≡ rangeWords ws → ⊥) → false ≡ lawfulRanges ws rs

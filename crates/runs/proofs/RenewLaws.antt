@@ -3,6 +3,7 @@ use mathlib.Core.Path.{_≡_, refl, ap, _∙_, sym}
 use mathlib.Core.Bool.{Bool, true, false}
 use mathlib.Core.List.{List, [], _∷_, _++_, append-assoc, append-nil}
 use Prim.Native.Nat.{ℕ, suc, _+_, _-_, _<_, _≤_, zero-le}
+use native.Mathlib.Nat.{add-zero}
 use native.Mathlib.Numerals.{add-one}
 use native.Mathlib.Decide.{decLt, decLe, ℕ-discrete}
 use native.Mathlib.Omega.{arith}
@@ -14,9 +15,9 @@ use Rattle.words.proofs.Cases.{by-test, by-dec}
 use Rattle.words.proofs.CountLaws.{one-if-le}
 use Rattle.runs.specs.PageWords.{mapped, rangeBit}
 use Rattle.runs.specs.Walk.{joins, goesOn, runBefore, bitWord, withBits, ended, entryOf, rangeWords}
-use Rattle.runs.specs.Steps.{Empty, Onward, Marked, zeroFrom, markedPages, EndedRun}
+use Rattle.runs.specs.Steps.{Empty, Onward, Along, nowhere, empty, onward, Marked, zeroFrom, markedPages, EndedRun}
 use Rattle.runs.proofs.WordLaws.{zero-unmapped, mapped-word, own-bit, ahead, bit-none, bit-bit, goes-join, goes-new}
-use Rattle.runs.proofs.StepLaws.{walk-empty, walk-onward, next-on, next-short, next-long, Walked, walk-start, run-le, at-length, left-step, left-end, left-room, walk-step, stops-step, stops-end, bit-run, walk-end}
+use Rattle.runs.proofs.StepLaws.{walk-empty, walk-onward, run-none, next-on, next-short, next-long, Walked, walk-start, run-le, at-length, left-step, left-end, left-room, walk-step, stops-step, stops-end, bit-run, walk-end}
 use Rattle.runs.proofs.WalkLaws.{goes-zero, whole, bit-at, withBits-at, length-withBits, ended-short, ended-long, ended-on}
 
 -- Marking, word by word
@@ -180,7 +181,7 @@ module _ (ws xs rs : List ℕ) (i n v at : ℕ) (s : Renewing ws xs rs i n v at)
       }
 
   -- over a stretch whose words stay: pages without a range bit that go on the run
-  pub renew-onward : (k : ℕ) → mapped v ≡ true → rangeBit v ≡ false → Onward xs i v k → Renewing ws xs rs (i + k) (n + k) (v + k) at
+  renew-onward : (k : ℕ) → mapped v ≡ true → rangeBit v ≡ false → Onward xs i v k → Renewing ws xs rs (i + k) (n + k) (v + k) at
   renew-onward k m off o =
       let same : (j : ℕ) → j < k → getD ws (i + j) 0 ≡ v + (j + 1) = λ j h. sym (s .waiting (i + j) (omega arith)) ∙ o .next j h in
       record {
@@ -211,7 +212,7 @@ module _ (ws xs rs : List ℕ) (i n v at : ℕ) (s : Renewing ws xs rs i n v at)
   renew-place xs′ rs′ at′ e r = omega (arith, r .place, room-end e, kept rs′ (ended false i n v) (r .table))
 
 -- over unmapped pages
-pub renew-empty : (ws xs rs : List ℕ) (i at k : ℕ) → Renewing ws xs rs i 0 0 at → Empty xs i k → Renewing ws xs rs (i + k) 0 0 at
+renew-empty : (ws xs rs : List ℕ) (i at k : ℕ) → Renewing ws xs rs i 0 0 at → Empty xs i k → Renewing ws xs rs (i + k) 0 0 at
 unfolding bit-at
 renew-empty ws xs rs i at k s e =
     let none : (q : ℕ) → i ≤ q → q < i + k → getD ws q 0 ≡ 0 = λ q lo hi. sym (s .waiting q lo) ∙ e .zero q lo hi in
@@ -227,3 +228,13 @@ renew-empty ws xs rs i at k s e =
       running = λ q lo hi. absurd (omega arith);
       waiting = λ q le. s .waiting q (omega arith);
     }
+
+pub renew-along : (ws xs rs : List ℕ) (i n v at p m j w : ℕ) → Renewing ws xs rs i n v at → Along xs i v p m → (rangeBit v ≡ true → p ≡ 0) → j ≡ i + p → w ≡ v + m → Renewing ws xs rs j (n + m) w at
+renew-along ws xs rs i n v at p m j w s along off e f = rw (e, f) (go p m along off)
+  where
+    go : (p m : ℕ) → Along xs i v p m → (rangeBit v ≡ true → p ≡ 0) → Renewing ws xs rs (i + p) (n + m) (v + m) at
+    go p m nowhere off = rw (add-zero i, add-zero n, add-zero v) s
+    go p m (empty z e) off =
+        let none : n ≡ 0 = run-none _ _ _ _ _ _ (s .walked) z in
+        rw (none, z) (renew-empty ws xs rs i at p (rw (none, z) at s) e)
+    go p m (onward t o) off = by-test (rangeBit v) (λ y. rw (off y, add-zero i, add-zero n, add-zero v) s) (λ f. renew-onward ws xs rs i n v at s p t f o)

@@ -5,6 +5,7 @@ use mathlib.Core.List.{List, [], _++_, append-assoc, append-nil}
 use Prim.Native.Nat.{ℕ, zero, suc, _+_, _-_, _<_, _≤_, zero-le}
 use native.Mathlib.Nat.{add-zero}
 use native.Mathlib.Numerals.{add-one}
+use native.Mathlib.Decide.{decLe}
 use native.Mathlib.Omega.{arith}
 use lib.Dec.{leb}
 use lib.ListN.{length, getD, drop, take, replicate, length-append}
@@ -12,12 +13,12 @@ use lib.Seq.{length-take-le}
 use borrow.Author.Tests.{eqb-true}
 use Rattle.words.specs.Counts.{one-if}
 use Rattle.words.specs.Writes.{sameIn, countsIn, PassTo}
-use Rattle.words.proofs.Cases.{true-false}
+use Rattle.words.proofs.Cases.{by-dec, true-false}
 use Rattle.runs.specs.PageWords.{mapped, frameIn}
 use Rattle.runs.specs.Walk.{joins, goesOn, wordBefore, runBefore, bitWord, ended, entriesFrom, entries, rangeWords}
-use Rattle.runs.specs.Steps.{zeroFrom, Empty, Onward}
+use Rattle.runs.specs.Steps.{zeroFrom, Empty, Onward, Along, nowhere, empty, onward}
 use Rattle.runs.proofs.WordLaws.{frame-lt, zero-unmapped, join, not-joins, goes-join, goes-new, ahead-joins}
-use Rattle.runs.proofs.WalkLaws.{before-suc, before-le, whole, whole-end, whole-last, bit-at, bit-ended, entries-suc, entries-end, ended-short, ended-long, ended-on, length-entry, entries-few}
+use Rattle.runs.proofs.WalkLaws.{last-mapped, before-suc, before-le, whole, whole-end, whole-last, bit-at, bit-ended, entries-suc, entries-end, ended-short, ended-long, ended-on, length-entry, entries-few}
 
 -- the place of the next entry, in the three ways that a run goes
 pub next-on : (on : Bool) (at b n v : ℕ) → on ≡ true → at ≡ at + length (ended on b n v)
@@ -164,3 +165,22 @@ onward-scanned ws i v most r h room low x =
           let sum : v + 1 + (i + j - i) ≡ v + (j + 1) = omega arith in
           eqb-true _ _ (x .pass (i + j) (omega arith) (omega arith)) ∙ sum;
     }
+
+pub along-nowhere : (ws : List ℕ) (i w p m : ℕ) → p ≡ 0 → m ≡ 0 → Along ws i w p m
+along-nowhere ws i w p m e f = rw (e, f) nowhere
+
+pub along-empty : (ws : List ℕ) (i w p m : ℕ) → w ≡ 0 → Empty ws i p → m ≡ 0 → Along ws i w p m
+along-empty ws i w p m z e f = rw f (empty z e)
+
+-- a stretch stays in the space
+pub along-room : (ws : List ℕ) (i w p m : ℕ) → i ≤ 1024 → Along ws i w p m → (i + p ≤ 1024) × (m ≤ p)
+along-room ws i w p m h nowhere = (omega arith, zero-le)
+along-room ws i w p m h (empty z e) = (e .room, zero-le)
+along-room ws i w p m h (onward t o) = (o .room, omega arith)
+
+-- no run goes before a word 0
+pub run-none : (ws rs : List ℕ) (i n v at : ℕ) → Walked ws rs i n v at → v ≡ 0 → n ≡ 0
+run-none ws rs i n v at s z =
+    by-dec (decLe 1 n)
+    (λ some. true-false (mapped v) (ap mapped (s .last) ∙ last-mapped ws i (omega (arith, s .run))) (zero-unmapped v z))
+    (λ none. omega arith)

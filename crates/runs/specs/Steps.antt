@@ -28,6 +28,12 @@ pub record Onward (ws : List ℕ) (i v k : ℕ) : Type 0 where
   pub frames : frameIn v + k ≤ 4095
   pub next : (j : ℕ) → j < k → getD ws (i + j) 0 ≡ v + (j + 1)
 
+-- a stretch of pages from page i on, after word w, and how many of them are mapped
+pub data Along (ws : List ℕ) (i w : ℕ) : ℕ → ℕ → Type 0 where
+  nowhere : Along ws i w 0 0
+  empty : {k : ℕ} → w ≡ 0 → Empty ws i k → Along ws i w k 0
+  onward : {k : ℕ} → mapped w ≡ true → Onward ws i w k → Along ws i w k k
+
 -- Making anew
 
 -- the words of n pages from page a on have the range bit, and every other is as it was
