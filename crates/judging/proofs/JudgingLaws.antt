@@ -44,7 +44,7 @@ pub lengths-last : (c fs ps rs : List ℕ) → length c ≡ 195 → length fs �
 unfolding rightLengths
 lengths-last c fs ps rs x y z = rw (eq-eqb _ _ x, eq-eqb _ _ y, eq-eqb _ _ z)
 
-pool-small : (c : List ℕ) (F : ℕ) → F ≡ poolSize c → lawfulControl c ≡ true → F ≤ 4096
+pub pool-small : (c : List ℕ) (F : ℕ) → F ≡ poolSize c → lawfulControl c ≡ true → F ≤ 4096
 pool-small c F e t = let p = size-test _ (lawful-says c t .pool) in omega (arith, p .1)
 
 -- in sound tables every page of the four spaces fits; where every page fits, and as many pages are mapped as frames are held, they are sound

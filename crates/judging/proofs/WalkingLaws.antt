@@ -1,26 +1,31 @@
 -- The walk over a space's page words, and over the four spaces.
-use mathlib.Core.Path.{_≡_, refl, ap}
+use mathlib.Core.Path.{_≡_, refl, ap, sym, _∙_}
 use mathlib.Core.Bool.{Bool, true, false, _||_, not}
 use mathlib.Core.List.{List}
 use Prim.Native.Nat.{ℕ, suc, _+_, _-_, _*_, _<_, _≤_}
+use native.Mathlib.Nat.{add-zero}
 use native.Mathlib.Omega.{arith}
 use lib.ListN.{length, getD, take, drop}
-use borrow.Author.Tests.{not-true}
+use borrow.Author.Tests.{not-true, eqb-true, eq-eqb}
 use Rattle.words.specs.Counts.{count, one-if}
 use Rattle.words.specs.Searches.{allFrom, every}
 use Rattle.words.specs.Tables.{part}
-use Rattle.words.proofs.Cases.{by-test, and-true, true-and}
-use Rattle.words.proofs.SearchLaws.{every-at, at-every, every-all}
-use Rattle.words.proofs.CountLaws.{one-if-le, count-ext, count-split}
-use Rattle.runs.specs.PageWords.{mapped}
+use Rattle.words.specs.Writes.{countsIn, PassTo}
+use Rattle.words.proofs.Cases.{true-false, by-test, and-true, true-and}
+use Rattle.words.proofs.SearchLaws.{all-step, all-along, every-at, at-every, every-all}
+use Rattle.words.proofs.CountLaws.{one-if-le, count-ext, count-split, none-pass, all-pass}
+use Rattle.runs.specs.PageWords.{mapped, frameIn}
 use Rattle.runs.specs.Walk.{lawfulRanges}
+use Rattle.runs.specs.Steps.{Onward, Along, nowhere, empty, onward}
+use Rattle.runs.proofs.WordLaws.{zero-unmapped, ahead}
+use Rattle.runs.proofs.StepLaws.{along-room}
 use Rattle.control.specs.Control.{isOpen}
 use Rattle.pointing.specs.Pointing.{pageOk}
-use Rattle.pointing.proofs.PointingLaws.{page-unmapped}
+use Rattle.pointing.proofs.PointingLaws.{page-unmapped, page-names}
 use Rattle.layout.specs.Tables.{spacePages, spaceRanges}
 use Rattle.layout.proofs.SpaceLaws.{part-at}
 use Rattle.layout.proofs.SoundLaws.{space-room}
-use Rattle.judging.specs.Judging.{pageMapped, pageFits, partSound, spaceSound}
+use Rattle.judging.specs.Judging.{pageMapped, pageFits, partSound, spaceSound, Named}
 
 -- one page
 
@@ -77,6 +82,53 @@ module _ (opened : Bool) (fs : List ℕ) (F a : ℕ) (ws xs : List ℕ) where
   unfolding partSound
   says-part t h = true-and _ _ t (at-every (pageFits opened fs F) 0 ws a h)
 
+-- a stretch of pages
+
+pub onward-fewer : (ws : List ℕ) (i v k r : ℕ) → r ≤ k → Onward ws i v k → Onward ws i v r
+onward-fewer ws i v k r h o = record { room = omega (arith, o .room); frames = omega (arith, o .frames); next = λ j lt. o .next j (omega arith) }
+
+pub named-scanned : (fs : List ℕ) (F f i most r : ℕ) → f + most < F → PassTo (countsIn fs (f + 1) (i + 1)) (f + 1) (f + 1 + most) r → Named fs F f i (r - (f + 1))
+unfolding countsIn
+named-scanned fs F f i most r h x =
+    let to = x .to in
+    let from = x .from in
+    record {
+      below = λ j lt. omega arith;
+      names = λ j lt.
+          let place : f + 1 + j ≡ f + (j + 1) = omega arith in
+          let sum : i + 1 + (f + 1 + j - (f + 1)) ≡ i + j + 1 = omega arith in
+          let word : getD fs (f + 1 + j) 0 ≡ i + 1 + (f + 1 + j - (f + 1)) = eqb-true _ _ (x .pass (f + 1 + j) (omega arith) (omega arith)) in
+          rw place at (word ∙ sum);
+    }
+
+pub named-none : (fs : List ℕ) (F f i k : ℕ) → k ≡ 0 → Named fs F f i k
+named-none fs F f i k e = record { below = λ j lt. absurd (omega arith); names = λ j lt. absurd (omega arith) }
+
+module _ (opened : Bool) (fs : List ℕ) (F a : ℕ) (ws : List ℕ) where
+  -- each of its pages fits, where the word before it does
+  fits-along : (i w b p m : ℕ) → pageFits opened fs F b w ≡ true → Along ws i w p m → Named fs F (frameIn w) (a + i) m → (q : ℕ) → i ≤ q → q < i + p → pageFits opened fs F (a + q) (getD ws q 0) ≡ true
+  fits-along i w b p m t nowhere named q lo hi = absurd (omega arith)
+  fits-along i w b p m t (empty z e) named q lo hi =
+      let none : mapped (getD ws q 0) ≡ false = zero-unmapped _ (e .zero q lo hi) in
+      says-fits opened fs F (a + q) (getD ws q 0) (λ f. none) (sym (page-unmapped fs F (a + q) (getD ws q 0) none))
+  fits-along i w b p m t (onward maps o) named q lo hi =
+      let frames = o .frames in
+      let j : ℕ = q - i in
+      let word : getD ws q 0 ≡ w + (j + 1) = let e : i + j ≡ q = omega arith in rw e at (o .next j (omega arith)) in
+      let place : a + i + j + 1 ≡ a + q + 1 = omega arith in
+      let here = ahead w (j + 1) maps (omega arith) in
+      let low : frameIn (w + (j + 1)) < F = rw (here .frame) (named .below j (omega arith)) in
+      let name : getD fs (frameIn (w + (j + 1))) 0 ≡ a + q + 1 = rw (here .frame) (named .names j (omega arith) ∙ place) in
+      let ok : pageOk fs F (a + q) (w + (j + 1)) ≡ true = sym (page-names fs F (a + q) (w + (j + 1)) (here .maps) low) ∙ eq-eqb _ _ name in
+      rw word (says-fits opened fs F (a + q) (w + (j + 1)) (λ f. true-false (mapped w) maps (fits-says opened fs F b w t .0 f)) ok)
+
+  -- the walk's turn: page i, with word w, and the stretch after it
+  pub fits-turn : (all : Bool) (i w p m j : ℕ) → all ≡ allFrom (1024 - i) i (λ q. pageFits opened fs F (a + q) (getD ws q 0)) → w ≡ getD ws i 0 → i < 1024 → pageFits opened fs F (a + i) w ≡ true → Along ws (i + 1) w p m
+      → Named fs F (frameIn w) (a + (i + 1)) m → j ≡ i + 1 + p → all ≡ allFrom (1024 - j) j (λ q. pageFits opened fs F (a + q) (getD ws q 0))
+  fits-turn all i w p m j e word h t along named jj =
+      let room = along-room ws (i + 1) w p m (omega arith) along in
+      rw jj (e ∙ all-step _ i 1024 h (rw word at t) ∙ all-along _ (i + 1) 1024 p (room .0) (fits-along (i + 1) w (a + i) p m t along named))
+
 -- mapped pages, counted
 
 module _ (ws : List ℕ) where
@@ -84,9 +136,21 @@ module _ (ws : List ℕ) where
   unfolding count
   count-start = refl
 
-  pub count-turn : (i m r : ℕ) → m ≡ count i (pageMapped ws) → r ≡ one-if (mapped (getD ws i 0)) → m + r ≡ count (i + 1) (pageMapped ws)
+  count-one : (i m r : ℕ) → m ≡ count i (pageMapped ws) → r ≡ one-if (mapped (getD ws i 0)) → m + r ≡ count (i + 1) (pageMapped ws)
   unfolding count pageMapped
-  count-turn i m r e q = let s : i + 1 ≡ suc i = omega arith in rw (s, e, q)
+  count-one i m r e q = let s : i + 1 ≡ suc i = omega arith in rw (s, e, q)
+
+  count-along : (i w p m c : ℕ) → c ≡ count i (pageMapped ws) → Along ws i w p m → c + m ≡ count (i + p) (pageMapped ws)
+  unfolding pageMapped
+  count-along i w p m c e nowhere = rw (add-zero c, add-zero i) e
+  count-along i w p m c e (empty z x) = rw (add-zero c) (e ∙ sym (count-split i p (pageMapped ws) ∙ omega (arith, none-pass p (λ k. pageMapped ws (i + k)) (λ k h. zero-unmapped _ (x .zero (i + k) (omega arith) (omega arith))))))
+  count-along i w p m c e (onward t o) = rw e (sym (count-split i p (pageMapped ws) ∙ ap (λ (x : ℕ). count i (pageMapped ws) + x) (all-pass p (λ k. pageMapped ws (i + k)) (λ k h. ap mapped (o .next k h) ∙ ahead w (k + 1) t (omega (arith, o .frames)) .maps))))
+
+  -- the walk's turn
+  pub count-turn : (i w p m c r j : ℕ) → c ≡ count i (pageMapped ws) → r ≡ one-if (mapped (getD ws i 0)) → Along ws (i + 1) w p m → j ≡ i + 1 + p → c + (r + m) ≡ count j (pageMapped ws)
+  count-turn i w p m c r j e q along jj =
+      let s : c + (r + m) ≡ c + r + m = omega arith in
+      rw (jj, s) (count-along (i + 1) w p m (c + r) (count-one i c r e q) along)
 
 pub one-small : (w r : ℕ) → r ≡ one-if (mapped w) → r ≤ 1
 one-small w r e = let q = one-if-le (mapped w) in omega arith

@@ -1,7 +1,8 @@
 -- What the steps of the judgement decide.
+use mathlib.Core.Path.{_≡_}
 use mathlib.Core.Bool.{Bool, _&&_, _||_, not}
 use mathlib.Core.List.{List}
-use Prim.Native.Nat.{ℕ, _*_}
+use Prim.Native.Nat.{ℕ, _+_, _*_, _<_}
 use lib.ListN.{getD}
 use Rattle.words.specs.Searches.{every}
 use Rattle.runs.specs.PageWords.{mapped}
@@ -29,3 +30,8 @@ spaceSound mask fs F ps rs s = partSound (isOpen mask s) fs F (1024 * s) (spaceP
 -- buffers of any lengths: "four buffers with exact lengths", and sound
 unfoldable pub soundBuffers : Tables → Bool
 soundBuffers T = rightLengths T && sound T
+
+-- the k frames after frame f are below F, and their words name the places i, i + 1, .. of the page buffer
+pub record Named (fs : List ℕ) (F f i k : ℕ) : Type 0 where
+  pub below : (j : ℕ) → j < k → f + (j + 1) < F
+  pub names : (j : ℕ) → j < k → getD fs (f + (j + 1)) 0 ≡ i + j + 1

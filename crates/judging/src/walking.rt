@@ -5,16 +5,24 @@ ghost use Prim.Native.Nat.{_+_, _≤_, _<_};
 ghost use lib.ListN.{length};
 ghost use Rattle.words.specs.Counts.{count, one-if};
 ghost use Rattle.words.specs.Searches.{allFrom};
-ghost use Rattle.runs.specs.PageWords.{mapped};
-ghost use Rattle.judging.specs.Judging.{pageMapped, pageFits, partSound, spaceSound};
+ghost use Rattle.runs.specs.PageWords.{mapped, frameIn};
+ghost use Rattle.runs.specs.Steps.{Along};
+ghost use Rattle.judging.specs.Judging.{pageMapped, pageFits, partSound, spaceSound, Named};
+use blocks::Frame;
 use pointing::page_ok;
 use ranges::lawful::next_place;
 use ranges::lawful::rest_fits;
 use ranges::lawful::step_fits;
+use ranges::page_words::frame_in;
 use ranges::page_words::mapped;
+use ranges::walk::Stretch;
 use ranges::walk::goes_on;
 use ranges::walk::joined;
+use ranges::walk::nowhere;
+use ranges::walk::onward_from;
+use ranges::walk::over_empty;
 use runs::Page;
+use words::scans::counts_to;
 
 // What a walk finds: whether the words are sound, and how many pages are mapped.
 pub struct Walked {
@@ -52,6 +60,60 @@ fn page_fits(frames: &[u32], pool: u32, opened: bool, i: u32, w: u32) -> bool
     !mapped(w)
 }
 
+fn least(a: u32, b: u32) -> u32
+    ensures { λ r. ⌜ r ≤ a ⌝ }
+    ensures { λ r. ⌜ r ≤ b ⌝ }
+{
+    if a < b {
+        return a;
+    }
+    b
+}
+
+// How many of the k frames after frame f are in the pool and have words that name the places i, i + 1, ..
+fn named_after(frames: &[u32], pool: u32, f: Frame, i: u32, k: u32) -> u32
+    requires { ⌜ length (now frames) ≡ 4096 ⌝ }
+    requires { ⌜ pool ≤ 4096 ⌝ }
+    requires { ⌜ i + k ≤ 4096 ⌝ }
+    ensures { λ r. ⌜ r ≤ k ⌝ }
+    ensures { λ r. ⌜ Named (now (frames .entry)) pool (f .0) i r ⌝ }
+{
+    if pool <= f.0 {
+        return 0;
+    }
+    let most = least(k, pool - 1 - f.0);
+    let from = (f.0 + 1) as usize;
+    let end = counts_to(frames, from, from + (most as usize), i + 1);
+    (end - from) as u32
+}
+
+// The pages from page b on, after word w, that fit at once: unmapped ones, or those that go on the run of w and whose frames name them.
+fn over_fitting(frames: &[u32], pool: u32, first: u32, part: &[u32], b: Page, w: u32) -> Stretch
+    requires { ⌜ length (now frames) ≡ 4096 ⌝ }
+    requires { ⌜ pool ≤ 4096 ⌝ }
+    requires { ⌜ first + 1024 ≤ 4096 ⌝ }
+    requires { ⌜ length (now part) ≡ 1024 ⌝ }
+    requires { ⌜ b .0 ≤ 1024 ⌝ }
+    ensures { λ r. ⌜ Along (now (part .entry)) (b .0) w (r .pages) (r .mapped) ⌝ }
+    ensures { λ r. ⌜ r .last ≡ w + r .mapped ⌝ }
+    ensures { λ r. ⌜ Named (now (frames .entry)) pool (frameIn w) (first + b .0) (r .mapped) ⌝ }
+{
+    if w == 0 {
+        return over_empty(part, b);
+    }
+    if !mapped(w) {
+        return nowhere(w);
+    }
+    let place = first + b.0;
+    let k = onward_from(part, b, w);
+    let pages = named_after(frames, pool, frame_in(w), place, k);
+    Stretch {
+        pages,
+        mapped: pages,
+        last: w + pages,
+    }
+}
+
 // The walk over one space, whose page words start at place `first` of the page buffer.
 fn walk_space(
     frames: &[u32],
@@ -62,6 +124,7 @@ fn walk_space(
     ranges: &[u32],
 ) -> Walked
     requires { ⌜ length (now frames) ≡ 4096 ⌝ }
+    requires { ⌜ pool ≤ 4096 ⌝ }
     requires { ⌜ first + 1024 ≤ 4096 ⌝ }
     requires { ⌜ length (now part) ≡ 1024 ⌝ }
     requires { ⌜ length (now ranges) ≡ 512 ⌝ }
@@ -83,10 +146,11 @@ fn walk_space(
             return unsound();
         }
         at = next_place(on, at, Page(i), n, v);
-        n = goes_on(n, v, w);
-        m += one_if_mapped(w);
-        v = w;
-        i += 1;
+        let along = over_fitting(frames, pool, first, part, Page(i + 1), w);
+        n = goes_on(n, v, w) + along.mapped;
+        m += one_if_mapped(w) + along.mapped;
+        v = along.last;
+        i += 1 + along.pages;
     }
     let sound = rest_fits(ranges, at, n, v);
     Walked { sound, mapped: m }
@@ -95,6 +159,7 @@ fn walk_space(
 // The walk over the four spaces.
 pub fn walk_spaces(mask: u32, frames: &[u32], pool: u32, pages: &[u32], ranges: &[u32]) -> Walked
     requires { ⌜ length (now frames) ≡ 4096 ⌝ }
+    requires { ⌜ pool ≤ 4096 ⌝ }
     requires { ⌜ length (now pages) ≡ 4096 ⌝ }
     requires { ⌜ length (now ranges) ≡ 2048 ⌝ }
     ensures { λ r. ⌜ r .sound ≡ allFrom 4 0 (spaceSound mask (now (frames .entry)) pool (now (pages .entry)) (now (ranges .entry))) ⌝ }

@@ -49,6 +49,13 @@ module _ (p : ℕ → Bool) (g e : ℕ) (h : g < e) where
       let s : e - g ≡ suc (e - (g + 1)) = omega arith in
       rw (s, t, allFrom)
 
+-- over k that pass
+pub all-along : (p : ℕ → Bool) (g e k : ℕ) → g + k ≤ e → ((q : ℕ) → g ≤ q → q < g + k → p q ≡ true) → allFrom (e - g) g p ≡ allFrom (e - (g + k)) (g + k) p
+all-along p g e zero h t = rw (add-zero g) refl
+all-along p g e (suc k) h t =
+    let s : g + suc k ≡ g + k + 1 = omega arith in
+    rw s (all-along p g e k (omega arith) (λ q lo hi. t q lo (omega arith)) ∙ all-step p (g + k) e (omega arith) (t (g + k) (omega arith) (omega arith)))
+
 pub all-end : (p : ℕ → Bool) (g e : ℕ) → e ≤ g → true ≡ allFrom (e - g) g p
 unfolding allFrom
 all-end p g e h = let s : e - g ≡ 0 = omega arith in rw s

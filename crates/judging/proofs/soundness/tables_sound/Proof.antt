@@ -3,7 +3,7 @@ use Rattle.judging.proofs.soundness.tables_sound.Statement.{statement}
 use Rattle.judging.proofs.soundness.tables_sound.Tie as tie
 use mathlib.Core.Path.{sym, _∙_}
 use borrow.Author.Tests.{not-true, not-false}
-use Rattle.judging.proofs.JudgingLaws.{bad-control, bad-frames, bad-spaces, by-counting}
+use Rattle.judging.proofs.JudgingLaws.{pool-small, bad-control, bad-frames, bad-spaces, by-counting}
 
 control-lawful-requires : tie.Need-control-lawful-requires
 control-lawful-requires c κs = search needs
@@ -24,7 +24,9 @@ open-mask-requires : tie.Need-open-mask-requires
 open-mask-requires c κs = search needs
 
 walk-spaces-requires : tie.Need-walk-spaces-requires
-walk-spaces-requires c κs = search needs
+walk-spaces-requires c κs =
+    let small = pool-small _ _ (c .before .before .before .before .pool-size .ensures) (sym (c .before .before .before .before .before .before .control-lawful .ensures) ∙ not-false _ (c .before .before .before .before .before .if1 .left)) in
+    (c .before .before .before .before .before .before .before .before .before .before .before .pre .1 .0, (small, (c .before .before .before .before .before .before .before .before .before .before .before .pre .1 .1 .0, c .before .before .before .before .before .before .before .before .before .before .before .pre .1 .1 .1)))
 
 returns-3 : tie.Need-returns-3
 returns-3 c =

@@ -102,7 +102,7 @@ loop-again c =
       omega arith,
       (
         c .before .before .before .before .before .before .before .before .loop .inv .1 .0 ∙ all-step _ _ _ (c .before .before .before .before .before .before .before .loop-test .taken) (sym (space-lent _ _ _ _ _ (c .before .before .before .before .before .before .before .before .loop .s) _ _ (c .before .before .before .before .before .before .is-open .ensures) (c .before .before .before .walk-space .ensures .0)) ∙ here),
-        count-space _ (c .before .before .before .before .before .before .before .before .before .before .before .before .pre .1 .0) (c .before .before .before .before .before .before .before .before .loop .s) (omega arith) _ _ (c .before .before .before .before .before .before .before .before .loop .inv .1 .1) (count-lent _ (c .before .before .before .before .before .before .before .before .loop .s) _ (c .before .before .before .walk-space .ensures .1 here)),
+        count-space _ (c .before .before .before .before .before .before .before .before .before .before .before .before .pre .1 .1 .0) (c .before .before .before .before .before .before .before .before .loop .s) (omega arith) _ _ (c .before .before .before .before .before .before .before .before .loop .inv .1 .1) (count-lent _ (c .before .before .before .before .before .before .before .before .loop .s) _ (c .before .before .before .walk-space .ensures .1 here)),
       ),
     )
 
