@@ -1,14 +1,17 @@
 -- What a record does, from the parts of the step.
-use mathlib.Core.Path.{_≡_, ap, sym, subst, _∙_}
+use mathlib.Core.Path.{_≡_, refl, ap, sym, subst, _∙_}
+use mathlib.Core.Bool.{false}
 use Prim.Native.Nat.{ℕ}
+use lib.Dec.{eqb}
 use borrow.Author.Tests.{eq-eqb, ne-eqb}
+use Rattle.words.proofs.Cases.{by-test}
 use Rattle.blocks.specs.declared.Outcome.{Outcome}
 use Rattle.layout.specs.declared.Answer.{Answer}
 use Rattle.layout.specs.Answers.{refusal, outcome}
 use Rattle.layout.specs.Tables.{Tables}
 use Rattle.history.specs.declared.Unit.{Unit as TlbUnit}
 use Rattle.history.specs.declared.Call.{Call}
-use Rattle.history.specs.Lists.{Does}
+use Rattle.history.specs.Lists.{Does, takesUnit}
 use Rattle.trace.specs.declared.Meaning.{Meaning}
 use Rattle.trace.specs.declared.Meaning.the-variants.{Malformed, Asked}
 use Rattle.trace.specs.declared.TwoUnits.{TwoUnits}
@@ -16,6 +19,7 @@ use Rattle.trace.specs.declared.Step.{Step}
 use Rattle.trace.specs.Steps.{freshUnits, unitAt, withUnit, renewed, answered, Taken, skipped, made}
 use Rattle.units.specs.declared.Translation.{Translation}
 use Rattle.units.specs.Translation.{freshly}
+use Rattle.units.specs.Performing.{OnTables}
 
 module _ (T : Tables) (p : TwoUnits) (m : Meaning) (k : ℕ) where
   pub skips : (o : Outcome) → m ≡ Malformed k → o ≡ refusal 16 → Taken T p m (record { kind = k; outcome = o; units = p }) T
@@ -34,6 +38,19 @@ module _ (k n : ℕ) (p : TwoUnits) (t : Translation) (o : Outcome) (q r : TwoUn
   pub answers : o ≡ outcome (t .answer) → q ≡ withUnit p n (t .unit) → r ≡ renewed k (t .answer) q → record { kind = k; outcome = o; units = r } ≡ answered k n p t
   unfolding answered
   answers eo eq er = rw (eo, er, eq)
+
+-- a call beside the units
+
+same-units : (p : TwoUnits) (n : ℕ) → withUnit p n (unitAt p n) ≡ p
+unfolding withUnit unitAt
+same-units p n = by-test (eqb n 0) (λ t. rw t) (λ f. rw f)
+
+module _ (T T′ : Tables) (p : TwoUnits) (k n : ℕ) (c : Call) (a : Answer) (o : Outcome) (q : TwoUnits) where
+  pub makes-beside : takesUnit c ≡ false → OnTables T a c T′ → o ≡ outcome a → q ≡ renewed k a p → Taken T p (Asked k n c) (record { kind = k; outcome = o; units = q }) T′
+  makes-beside f on eo eq =
+      let t : Translation = record { unit = unitAt p n; answer = a } in
+      let e : q ≡ renewed k a (withUnit p n (unitAt p n)) = eq ∙ ap (renewed k a) (sym (same-units p n)) in
+      makes T T′ p k n c (unitAt p n) t (record { kind = k; outcome = o; units = q }) refl (on .does f (unitAt p n)) (answers k n p t o (withUnit p n (unitAt p n)) q eo refl e)
 
 pub both-fresh : (t : Translation) → t ≡ freshly → record { first = t .unit; second = t .unit } ≡ freshUnits
 unfolding freshUnits freshly

@@ -1,7 +1,9 @@
 // What a record does to the tables and two units.
 ghost use mathlib.Core.Path.{_≡_};
+ghost use mathlib.Core.Bool.{false};
 ghost use Rattle.layout.specs.Answers.{refusal};
 ghost use Rattle.layout.specs.Tables.{tables};
+ghost use Rattle.history.specs.Lists.{takesUnit};
 ghost use Rattle.trace.specs.declared.Meaning.the-variants.{Asked};
 ghost use Rattle.trace.specs.Steps.{freshUnits, unitAt, withUnit, renewed, answered, Taken};
 use crate::Meaning;
@@ -86,8 +88,8 @@ fn answered(kind: u32, n: u32, p: TwoUnits, t: Translation) -> Step
     }
 }
 
-// Makes a call of a kind on unit n.
-fn made(
+// Makes a call that takes a unit on unit n.
+fn on_unit(
     kind: u32,
     n: u32,
     call: Call,
@@ -101,6 +103,48 @@ fn made(
 {
     let t = units::perform(call, unit_at(p, n), control, frames, pages, ranges);
     answered(kind, n, p, t)
+}
+
+// Makes a call that takes none: no unit is copied for it.
+fn beside_units(
+    kind: u32,
+    n: u32,
+    call: Call,
+    p: TwoUnits,
+    control: &mut [u32],
+    frames: &mut [u32],
+    pages: &mut [u32],
+    ranges: &mut [u32],
+) -> Step
+    requires { ⌜ takesUnit call ≡ false ⌝ }
+    ensures { λ r. ⌜ Taken (tables (now (control .entry)) (now (frames .entry)) (now (pages .entry)) (now (ranges .entry))) p (Asked kind n call) r (tables (now (control .exit)) (now (frames .exit)) (now (pages .exit)) (now (ranges .exit))) ⌝ }
+{
+    let a = units::on_tables(call, control, frames, pages, ranges);
+    Step {
+        kind,
+        outcome: tables::outcome(a),
+        units: renewed(kind, a, p),
+    }
+}
+
+// Makes a call of a kind, on unit n where it takes one.
+fn made(
+    kind: u32,
+    n: u32,
+    call: Call,
+    p: TwoUnits,
+    control: &mut [u32],
+    frames: &mut [u32],
+    pages: &mut [u32],
+    ranges: &mut [u32],
+) -> Step
+    ensures { λ r. ⌜ Taken (tables (now (control .entry)) (now (frames .entry)) (now (pages .entry)) (now (ranges .entry))) p (Asked kind n call) r (tables (now (control .exit)) (now (frames .exit)) (now (pages .exit)) (now (ranges .exit))) ⌝ }
+{
+    match call {
+        Call::SetUpUnit => on_unit(kind, n, call, p, control, frames, pages, ranges),
+        Call::Translate { .. } => on_unit(kind, n, call, p, control, frames, pages, ranges),
+        _ => beside_units(kind, n, call, p, control, frames, pages, ranges),
+    }
 }
 
 // Takes a record: a malformed one answers 16 and changes nothing.

@@ -14,6 +14,7 @@ ghost use Rattle.units.specs.Translation.{requestRefusals, findingAnswer
 
 mod performing;
 
+pub use crate::performing::on_tables;
 pub use crate::performing::perform;
 use finding::found;
 use history::Finding;
