@@ -1,10 +1,8 @@
 // Range bits and range words made anew.
 ghost use mathlib.Core.Path.{_≡_};
-ghost use mathlib.Core.Bool.{true};
 ghost use Prim.Native.Nat.{_+_, _≤_};
 ghost use lib.ListN.{length};
 ghost use lib.Seq.{sets};
-ghost use Rattle.runs.specs.PageWords.{rangeBit};
 ghost use Rattle.runs.specs.Walk.{entryOf, ended, withBits, rangeWords};
 ghost use Rattle.runs.specs.Steps.{Along, Marked, EndedRun, zeroFrom};
 use crate::page_words::bit_word;
@@ -21,17 +19,17 @@ use crate::walk::onward_from;
 use crate::walk::over_empty;
 use runs::Page;
 
-// Sets the range bit of n pages from page a on.
-fn mark(part: &mut [u32], a: Page, n: u32)
+// Gives n pages from page a on the range bit.
+fn mark(part: &mut [u32], a: Page, n: u32, bit: bool)
     requires { ⌜ a .0 + n ≤ length (now part) ⌝ }
     requires { ⌜ length (now part) ≡ 1024 ⌝ }
-    ensures { λ _. ⌜ Marked (now (part .entry)) (a .0) n (now (part .exit)) ⌝ }
+    ensures { λ _. ⌜ Marked bit (now (part .entry)) (a .0) n (now (part .exit)) ⌝ }
 {
     let first = a.0;
     let mut k: u32 = 0;
     while k < n {
         let at = (first + k) as usize;
-        part[at] = bit_word(true, part[at]);
+        part[at] = bit_word(bit, part[at]);
         k += 1;
     }
 }
@@ -70,9 +68,10 @@ fn end_run(
         return at;
     }
     if n < 8 {
+        mark(part, Page(b.0 - n), n, false);
         return at;
     }
-    mark(part, Page(b.0 - n), n);
+    mark(part, Page(b.0 - n), n, true);
     put(ranges, at, b, n, v);
     at + 4
 }
@@ -89,21 +88,17 @@ fn zero_from(ranges: &mut [u32], at: usize)
     }
 }
 
-// The pages from page b on, after word w, whose words stay as they are while the run of w lasts: unmapped ones, or those of a run without the range bit.
-fn over_kept(part: &[u32], b: Page, w: u32) -> Stretch
+// The pages from page b on, after word w, that a walk passes at once: unmapped ones, or those that go on the run of w.
+fn over(part: &[u32], b: Page, w: u32) -> Stretch
     requires { ⌜ length (now part) ≡ 1024 ⌝ }
     requires { ⌜ b .0 ≤ 1024 ⌝ }
     ensures { λ r. ⌜ Along (now (part .entry)) (b .0) w (r .pages) (r .mapped) ⌝ }
     ensures { λ r. ⌜ r .last ≡ w + r .mapped ⌝ }
-    ensures { λ r. ⌜ (rangeBit w ≡ true → r .pages ≡ 0) ⌝ }
 {
     if w == 0 {
         return over_empty(part, b);
     }
     if !mapped(w) {
-        return nowhere(w);
-    }
-    if range_bit(w) {
         return nowhere(w);
     }
     let pages = onward_from(part, b, w);
@@ -129,11 +124,11 @@ pub fn renew(part: &mut [u32], ranges: &mut [u32])
         let w = part[i as usize];
         let on = joined(v, w);
         at = end_run(part, ranges, on, at, Page(i), n, v);
-        part[i as usize] = bit_word(false, w);
-        let kept = over_kept(part, Page(i + 1), w);
-        n = goes_on(n, v, w) + kept.mapped;
-        v = kept.last;
-        i += 1 + kept.pages;
+        part[i as usize] = bit_word(range_bit(w), w);
+        let along = over(part, Page(i + 1), w);
+        n = goes_on(n, v, w) + along.mapped;
+        v = along.last;
+        i += 1 + along.pages;
     }
     at = end_run(part, ranges, false, at, Page(1024), n, v);
     zero_from(ranges, at);

@@ -11,24 +11,25 @@ use lib.Dec.{leb}
 use lib.ListN.{length, getD, drop, take, set, replicate, length-append, length-set, replicate-append-replicate}
 use lib.Seq.{ext-getD, getD-set-same, getD-set-other, sets, sets-eq, length-sets, take-at, take-all, take-suc-set}
 use borrow.Author.Tests.{le-leb, lt-leb}
+use Rattle.words.specs.Counts.{one-if}
 use Rattle.words.proofs.Cases.{by-test, by-dec}
 use Rattle.words.proofs.CountLaws.{one-if-le}
 use Rattle.runs.specs.PageWords.{mapped, rangeBit}
 use Rattle.runs.specs.Walk.{joins, goesOn, runBefore, bitWord, withBits, ended, entryOf, rangeWords}
 use Rattle.runs.specs.Steps.{Empty, Onward, Along, nowhere, empty, onward, Marked, zeroFrom, markedPages, EndedRun}
-use Rattle.runs.proofs.WordLaws.{zero-unmapped, mapped-word, own-bit, ahead, bit-none, bit-bit, goes-join, goes-new}
+use Rattle.runs.proofs.WordLaws.{zero-unmapped, mapped-word, own-bit, joins-at, bit-none, goes-join, goes-new}
 use Rattle.runs.proofs.StepLaws.{walk-empty, walk-onward, run-none, next-on, next-short, next-long, Walked, walk-start, run-le, at-length, left-step, left-end, left-room, walk-step, stops-step, stops-end, bit-run, walk-end}
 use Rattle.runs.proofs.WalkLaws.{goes-zero, whole, bit-at, withBits-at, length-withBits, ended-short, ended-long, ended-on}
 
 -- Marking, word by word
-pub mark-none : (xs : List ℕ) (a : ℕ) → Marked xs a 0 xs
-mark-none xs a = record { inside = λ q lo hi. absurd (omega arith); below = λ q h. refl; above = λ q h. refl }
+pub mark-none : (bit : Bool) (xs : List ℕ) (a : ℕ) → Marked bit xs a 0 xs
+mark-none bit xs a = record { inside = λ q lo hi. absurd (omega arith); below = λ q h. refl; above = λ q h. refl }
 
-pub mark-more : (xs ys : List ℕ) (a k : ℕ) (x : ℕ) → a + k < length ys → Marked xs a k ys → x ≡ bitWord true (getD ys (a + k) 0) → Marked xs a (k + 1) (set ys (a + k) x)
-mark-more xs ys a k x h m e = record {
+pub mark-more : (bit : Bool) (xs ys : List ℕ) (a k : ℕ) (x : ℕ) → a + k < length ys → Marked bit xs a k ys → x ≡ bitWord bit (getD ys (a + k) 0) → Marked bit xs a (k + 1) (set ys (a + k) x)
+mark-more bit xs ys a k x h m e = record {
   inside = λ q lo hi.
       by-dec (ℕ-discrete q (a + k))
-      (λ same. rw same (getD-set-same ys (a + k) x 0 h ∙ e ∙ ap (bitWord true) (m .above (a + k) (omega arith))))
+      (λ same. rw same (getD-set-same ys (a + k) x 0 h ∙ e ∙ ap (bitWord bit) (m .above (a + k) (omega arith))))
       (λ other. getD-set-other ys (a + k) q x 0 other ∙ m .inside q lo (omega arith));
   below = λ q lt. getD-set-other ys (a + k) q x 0 (λ s. omega arith) ∙ m .below q lt;
   above = λ q le. getD-set-other ys (a + k) q x 0 (λ s. omega arith) ∙ m .above q (omega arith);
@@ -62,40 +63,45 @@ unfolding markedPages
 still-on xs rs on at b n v t = record {
   place = next-on on at b n v t;
   table = rw (t, ended-on b n v) refl;
-  pages = rw t (mark-none xs (b - n));
+  pages = rw t (mark-none (leb 8 n) xs (b - n));
 }
 
-pub too-short : (xs rs : List ℕ) (on : Bool) (at b n v : ℕ) → on ≡ false → n < 8 → EndedRun xs rs on at b n v at xs rs
+pub too-short : (xs rs xs′ : List ℕ) (on : Bool) (at b n v : ℕ) → on ≡ false → n < 8 → Marked false xs (b - n) n xs′ → EndedRun xs rs on at b n v at xs′ rs
 unfolding markedPages
-too-short xs rs on at b n v t h = record {
+too-short xs rs xs′ on at b n v t h m = record {
   place = next-short on at b n v t h;
   table = rw (t, ended-short b n v h) refl;
-  pages = rw (t, markedPages, lt-leb 8 n h) (mark-none xs (b - n));
+  pages = rw (t, lt-leb 8 n h) m;
 }
 
-pub long-run : (xs rs xs′ rs′ : List ℕ) (on : Bool) (at b n v : ℕ) → on ≡ false → 8 ≤ n → Marked xs (b - n) n xs′ → rs′ ≡ sets rs at (entryOf b n v) → EndedRun xs rs on at b n v (at + 4) xs′ rs′
+pub long-run : (xs rs xs′ rs′ : List ℕ) (on : Bool) (at b n v : ℕ) → on ≡ false → 8 ≤ n → Marked true xs (b - n) n xs′ → rs′ ≡ sets rs at (entryOf b n v) → EndedRun xs rs on at b n v (at + 4) xs′ rs′
 unfolding markedPages
 long-run xs rs xs′ rs′ on at b n v t h m w = record {
   place = next-long on at b n v t h;
   table = rw (t, ended-long b n v h) w;
-  pages = rw (t, markedPages, le-leb 8 n h) m;
+  pages = rw (t, le-leb 8 n h) m;
 }
 
-none-marked : (xs xs′ : List ℕ) (a : ℕ) → Marked xs a 0 xs′ → (q : ℕ) → getD xs′ q 0 ≡ getD xs q 0
-none-marked xs xs′ a m q = by-dec (decLt q a) (λ b. m .below q b) (λ b. m .above q (omega arith))
+none-marked : (bit : Bool) (xs xs′ : List ℕ) (a : ℕ) → Marked bit xs a 0 xs′ → (q : ℕ) → getD xs′ q 0 ≡ getD xs q 0
+none-marked bit xs xs′ a m q = by-dec (decLt q a) (λ b. m .below q b) (λ b. m .above q (omega arith))
 
 marked-le : (on : Bool) (n : ℕ) → markedPages on n ≤ n
 unfolding markedPages
 marked-le true n = zero-le
-marked-le false n = by-test (leb 8 n) (λ t. rw (t, markedPages) (omega arith)) (λ t. rw (t, markedPages) zero-le)
+marked-le false n = omega arith
+
+counts-one : (b : Bool) → 1 ≤ one-if b → b ≡ true
+unfolding one-if
+counts-one true h = refl
+counts-one false h = absurd (omega arith)
 
 -- The walk at page i: xs are the page words so far, ws those at the start
 pub record Renewing (ws xs rs : List ℕ) (i n v at : ℕ) : Type 0 where
   pub walked : Walked ws rs i n v at
   pub room : length xs ≡ 1024
-  -- the pages before the run are settled, those of the run have no range bit, those to come are as they were
+  -- the pages before the run are settled, those of the run and those to come are as they were
   pub settled : (q : ℕ) → q + n < i → getD xs q 0 ≡ bit-at ws q
-  pub running : (q : ℕ) → i ≤ q + n → q < i → getD xs q 0 ≡ bitWord false (getD ws q 0)
+  pub running : (q : ℕ) → i ≤ q + n → q < i → getD xs q 0 ≡ getD ws q 0
   pub waiting : (q : ℕ) → i ≤ q → getD xs q 0 ≡ getD ws q 0
 
 pub renew-start : (ws rs : List ℕ) → length ws ≡ 1024 → length rs ≡ 512 → Renewing ws ws rs 0 0 0 0
@@ -115,25 +121,13 @@ module _ (ws xs rs : List ℕ) (i n v at : ℕ) (s : Renewing ws xs rs i n v at)
   room-end h = left-room _ _ _ _ _ _ (s .walked) false (left-end _ _ _ _ _ _ (s .walked) h)
 
   -- where the run ends, all pages before i are settled
-  all-settled : (xs′ : List ℕ) → whole ws i ≡ runBefore ws i → Marked xs (i - n) (markedPages false n) xs′ → (q : ℕ) → q < i → getD xs′ q 0 ≡ bit-at ws q
-  unfolding markedPages
+  all-settled : (xs′ : List ℕ) → whole ws i ≡ runBefore ws i → Marked (leb 8 n) xs (i - n) n xs′ → (q : ℕ) → q < i → getD xs′ q 0 ≡ bit-at ws q
   all-settled xs′ w m q lt =
       let le = run-le _ _ _ _ _ _ (s .walked) in
-      let at-end : i ≤ q + n → bit-at ws q ≡ bitWord (leb 8 n) (getD ws q 0) = bit-run _ _ _ _ _ _ (s .walked) w q lt in
-      by-dec (decLe 8 n)
-      (λ long.
-      let m′ : Marked xs (i - n) n xs′ = rw (le-leb 8 n long, markedPages) at m in
       by-dec (decLt (q + n) i)
-      (λ before. m′ .below q (omega arith) ∙ s .settled q before)
+      (λ before. m .below q (omega arith) ∙ s .settled q before)
       (λ in-run.
-      m′ .inside q (omega arith) (omega arith) ∙ ap (bitWord true) (s .running q (omega arith) lt) ∙ bit-bit false true (getD ws q 0)
-      ∙ sym (at-end (omega arith) ∙ ap (λ (b : Bool). bitWord b (getD ws q 0)) (le-leb 8 n long))))
-      (λ short.
-      let f = lt-leb 8 n (omega arith) in
-      let m′ : Marked xs (i - n) 0 xs′ = rw (f, markedPages) at m in
-      none-marked xs xs′ (i - n) m′ q ∙ by-dec (decLt (q + n) i)
-      (λ before. s .settled q before)
-      (λ in-run. s .running q (omega arith) lt ∙ sym (at-end (omega arith) ∙ ap (λ (b : Bool). bitWord b (getD ws q 0)) f)))
+      m .inside q (omega arith) (omega arith) ∙ ap (bitWord (leb 8 n)) (s .running q (omega arith) lt) ∙ sym (bit-run _ _ _ _ _ _ (s .walked) w q lt (omega arith)))
 
   -- the entries written so far
   taken : (rs′ es : List ℕ) (at′ : ℕ) → at + length es ≤ 512 → at′ ≡ at + length es → rs′ ≡ sets rs at es → take at′ rs′ ≡ take at rs ++ es
@@ -147,13 +141,14 @@ module _ (ws xs rs : List ℕ) (i n v at : ℕ) (s : Renewing ws xs rs i n v at)
   kept rs′ es e = rw e (length-sets rs at es ∙ s .walked .table)
 
   -- one page further
-  pub renew-step : (xs′ rs′ : List ℕ) (at′ w bw m : ℕ) (on : Bool) → i < 1024 → w ≡ getD xs i 0 → length xs′ ≡ 1024 → on ≡ joins v w → bw ≡ bitWord false w → m ≡ goesOn n v w
+  pub renew-step : (xs′ rs′ : List ℕ) (at′ w bw m : ℕ) (on bit : Bool) → i < 1024 → w ≡ getD xs i 0 → length xs′ ≡ 1024 → on ≡ joins v w → bit ≡ rangeBit w → bw ≡ bitWord bit w → m ≡ goesOn n v w
       → EndedRun xs rs on at i n v at′ xs′ rs′ → Renewing ws (set xs′ i bw) rs′ (i + 1) m w at′
   unfolding markedPages bit-at
-  renew-step xs′ rs′ at′ w bw m on h is len o e g r =
+  renew-step xs′ rs′ at′ w bw m on bit h is len o its e g r =
       let le = run-le _ _ _ _ _ _ (s .walked) in
       let here : w ≡ getD ws i 0 = is ∙ s .waiting i (omega arith) in
-      let word : getD (set xs′ i bw) i 0 ≡ bitWord false (getD ws i 0) = getD-set-same xs′ i bw 0 (omega arith) ∙ e ∙ ap (bitWord false) here in
+      let word : getD (set xs′ i bw) i 0 ≡ bitWord (rangeBit w) w = getD-set-same xs′ i bw 0 (omega arith) ∙ e ∙ ap (λ (b : Bool). bitWord b w) its in
+      let stays : mapped w ≡ true → getD (set xs′ i bw) i 0 ≡ getD ws i 0 = λ t. word ∙ sym (own-bit w (mapped-word w t)) ∙ here in
       let other : (q : ℕ) → (q ≡ i → ⊥) → getD (set xs′ i bw) q 0 ≡ getD xs′ q 0 = λ q ne. getD-set-other xs′ i q bw 0 ne in
       record {
         walked = walk-step _ _ _ _ _ _ (s .walked) rs′ on w m at′ h here o g (r .place) (kept rs′ (ended on i n v) (r .table)) (taken rs′ (ended on i n v) at′ (room-step on w h is o) (r .place) (r .table));
@@ -161,45 +156,43 @@ module _ (ws xs rs : List ℕ) (i n v at : ℕ) (s : Renewing ws xs rs i n v at)
         settled = by-test on
             (λ t q lt.
             let k = goes-join n v w (sym o ∙ t) in
-            let u : Marked xs (i - n) 0 xs′ = rw (t, markedPages) at (r .pages) in
-            other q (omega arith) ∙ none-marked xs xs′ (i - n) u q ∙ s .settled q (omega arith))
+            let u : Marked (leb 8 n) xs (i - n) 0 xs′ = rw (t, markedPages) at (r .pages) in
+            other q (omega arith) ∙ none-marked (leb 8 n) xs xs′ (i - n) u q ∙ s .settled q (omega arith))
             (λ t q lt.
-            let u : Marked xs (i - n) (markedPages false n) xs′ = rw t at (r .pages) in
+            let u : Marked (leb 8 n) xs (i - n) n xs′ = rw (t, markedPages) at (r .pages) in
             let end = stops-step _ _ _ _ _ _ (s .walked) w h here (sym o ∙ t) in
             by-dec (ℕ-discrete q i)
             (λ same.
-            let z : mapped (getD ws i 0) ≡ false = ap mapped (sym here) ∙ goes-zero n v w (omega arith) in
-            rw same (word ∙ bit-none false (getD ws i 0) z ∙ sym (bit-none (leb 8 (whole ws (suc i))) (getD ws i 0) z)))
+            let z : mapped w ≡ false = goes-zero n v w (omega arith) in
+            rw same (word ∙ bit-none (rangeBit w) w z ∙ sym (bit-none (leb 8 (whole ws (suc i))) (getD ws i 0) (ap mapped (sym here) ∙ z))))
             (λ ne. other q ne ∙ all-settled xs′ end u q (omega arith)));
         running = by-test on
             (λ t q lo hi.
             let k = goes-join n v w (sym o ∙ t) in
-            let u : Marked xs (i - n) 0 xs′ = rw (t, markedPages) at (r .pages) in
-            by-dec (ℕ-discrete q i) (λ same. rw same word) (λ ne. other q ne ∙ none-marked xs xs′ (i - n) u q ∙ s .running q (omega arith) (omega arith)))
-            (λ t q lo hi. by-dec (ℕ-discrete q i) (λ same. rw same word) (λ ne. absurd (omega (arith, goes-new n v w (sym o ∙ t), one-if-le (mapped w)))));
+            let u : Marked (leb 8 n) xs (i - n) 0 xs′ = rw (t, markedPages) at (r .pages) in
+            by-dec (ℕ-discrete q i) (λ same. rw same (stays (joins-at v w (sym o ∙ t) .next))) (λ ne. other q ne ∙ none-marked (leb 8 n) xs xs′ (i - n) u q ∙ s .running q (omega arith) (omega arith)))
+            (λ t q lo hi.
+            let k = goes-new n v w (sym o ∙ t) in
+            by-dec (ℕ-discrete q i)
+            (λ same. rw same (stays (counts-one (mapped w) (omega (arith, k)))))
+            (λ ne. absurd (omega (arith, k, one-if-le (mapped w)))));
         waiting = λ q le′. other q (omega arith) ∙ r .pages .above q (omega (arith, marked-le on n)) ∙ s .waiting q (omega arith);
       }
 
-  -- over a stretch whose words stay: pages without a range bit that go on the run
-  renew-onward : (k : ℕ) → mapped v ≡ true → rangeBit v ≡ false → Onward xs i v k → Renewing ws xs rs (i + k) (n + k) (v + k) at
-  renew-onward k m off o =
-      let same : (j : ℕ) → j < k → getD ws (i + j) 0 ≡ v + (j + 1) = λ j h. sym (s .waiting (i + j) (omega arith)) ∙ o .next j h in
+  -- over pages that go on the run
+  renew-onward : (k : ℕ) → mapped v ≡ true → Onward xs i v k → Renewing ws xs rs (i + k) (n + k) (v + k) at
+  renew-onward k m o =
       record {
-        walked = walk-onward ws rs i n v at k m (s .walked) (record { room = o .room; frames = o .frames; next = same });
+        walked = walk-onward ws rs i n v at k m (s .walked) (record { room = o .room; frames = o .frames; next = λ j h. sym (s .waiting (i + j) (omega arith)) ∙ o .next j h });
         room = s .room;
         settled = λ q lt. s .settled q (omega arith);
-        running = λ q lo hi.
-            by-dec (decLt q i) (λ before. s .running q (omega arith) before)
-            (λ here.
-            let frames = o .frames in
-            let w : getD ws q 0 ≡ v + (q - i + 1) = let e : i + (q - i) ≡ q = omega arith in rw e at (same (q - i) (omega arith)) in
-            let b = ahead v (q - i + 1) m (omega arith) in
-            s .waiting q (omega arith) ∙ rw w (own-bit _ (mapped-word _ (b .maps)) ∙ ap (λ (x : Bool). bitWord x (v + (q - i + 1))) (b .bit ∙ off)));
+        running = λ q lo hi. by-dec (decLt q i) (λ before. s .running q (omega arith) before) (λ here. s .waiting q (omega arith));
         waiting = λ q le. s .waiting q (omega arith);
       }
 
   -- the end
   pub renew-pages : (xs′ rs′ : List ℕ) (at′ : ℕ) → i ≡ 1024 → length xs′ ≡ 1024 → EndedRun xs rs false at i n v at′ xs′ rs′ → xs′ ≡ withBits ws
+  unfolding markedPages
   renew-pages xs′ rs′ at′ e len r =
       let z = s .walked .size in
       ext-getD 0 xs′ (withBits ws) (len ∙ sym (length-withBits ws ∙ z)) (λ q h.
@@ -229,12 +222,12 @@ renew-empty ws xs rs i at k s e =
       waiting = λ q le. s .waiting q (omega arith);
     }
 
-pub renew-along : (ws xs rs : List ℕ) (i n v at p m j w : ℕ) → Renewing ws xs rs i n v at → Along xs i v p m → (rangeBit v ≡ true → p ≡ 0) → j ≡ i + p → w ≡ v + m → Renewing ws xs rs j (n + m) w at
-renew-along ws xs rs i n v at p m j w s along off e f = rw (e, f) (go p m along off)
+pub renew-along : (ws xs rs : List ℕ) (i n v at p m j w : ℕ) → Renewing ws xs rs i n v at → Along xs i v p m → j ≡ i + p → w ≡ v + m → Renewing ws xs rs j (n + m) w at
+renew-along ws xs rs i n v at p m j w s along e f = rw (e, f) (go p m along)
   where
-    go : (p m : ℕ) → Along xs i v p m → (rangeBit v ≡ true → p ≡ 0) → Renewing ws xs rs (i + p) (n + m) (v + m) at
-    go p m nowhere off = rw (add-zero i, add-zero n, add-zero v) s
-    go p m (empty z e) off =
+    go : (p m : ℕ) → Along xs i v p m → Renewing ws xs rs (i + p) (n + m) (v + m) at
+    go p m nowhere = rw (add-zero i, add-zero n, add-zero v) s
+    go p m (empty z e) =
         let none : n ≡ 0 = run-none _ _ _ _ _ _ (s .walked) z in
         rw (none, z) (renew-empty ws xs rs i at p (rw (none, z) at s) e)
-    go p m (onward t o) off = by-test (rangeBit v) (λ y. rw (off y, add-zero i, add-zero n, add-zero v) s) (λ f. renew-onward ws xs rs i n v at s p t f o)
+    go p m (onward t o) = renew-onward ws xs rs i n v at s p t o

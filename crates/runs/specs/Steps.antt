@@ -36,9 +36,9 @@ pub data Along (ws : List ℕ) (i w : ℕ) : ℕ → ℕ → Type 0 where
 
 -- Making anew
 
--- the words of n pages from page a on have the range bit, and every other is as it was
-pub record Marked (xs : List ℕ) (a n : ℕ) (ys : List ℕ) : Type 0 where
-  pub inside : (q : ℕ) → a ≤ q → q < a + n → getD ys q 0 ≡ bitWord true (getD xs q 0)
+-- the words of n pages from page a on have the range bit given, and every other is as it was
+pub record Marked (bit : Bool) (xs : List ℕ) (a n : ℕ) (ys : List ℕ) : Type 0 where
+  pub inside : (q : ℕ) → a ≤ q → q < a + n → getD ys q 0 ≡ bitWord bit (getD xs q 0)
   pub below : (q : ℕ) → q < a → getD ys q 0 ≡ getD xs q 0
   pub above : (q : ℕ) → a + n ≤ q → getD ys q 0 ≡ getD xs q 0
 
@@ -46,15 +46,15 @@ pub record Marked (xs : List ℕ) (a n : ℕ) (ys : List ℕ) : Type 0 where
 unfoldable pub zeroFrom : List ℕ → ℕ → List ℕ
 zeroFrom xs at = take at xs ++ replicate (length xs - at) 0
 
--- how many pages are marked where a run of n pages ends, or goes on
+-- how many pages get their range bit where a run of n pages ends, or goes on
 unfoldable pub markedPages : Bool → ℕ → ℕ
-markedPages on n = elim on [ true ↦ 0 | false ↦ elim (leb 8 n) [ true ↦ n | false ↦ 0 ] ]
+markedPages on n = elim on [ true ↦ 0 | false ↦ n ]
 
 -- before page b the run of n pages ends, or goes on: r is the place of the next entry
 pub record EndedRun (xs rs : List ℕ) (on : Bool) (at b n v r : ℕ) (xs′ rs′ : List ℕ) : Type 0 where
   pub place : r ≡ at + length (ended on b n v)
   pub table : rs′ ≡ sets rs at (ended on b n v)
-  pub pages : Marked xs (b - n) (markedPages on n) xs′
+  pub pages : Marked (leb 8 n) xs (b - n) (markedPages on n) xs′
 
 -- Checking
 

@@ -1,70 +1,75 @@
-use borrow.Author.Needs.{needs}
-use Rattle.ranges.proofs.renew.mark.Statement.{statement}
-use Rattle.ranges.proofs.renew.mark.Tie as tie
 use mathlib.Core.Path.{_≡_, refl}
 use Prim.Native.Nat.{_≤_, _-_, zero-le}
 use native.Mathlib.Omega.{arith}
 use lib.ListN.{length, length-set}
 use Rattle.runs.specs.Steps.{Marked}
 use Rattle.runs.proofs.RenewLaws.{mark-none, mark-more}
+use borrow.Author.Needs.{needs}
+use Rattle.ranges.proofs.renew.mark.Statement.{statement}
+use Rattle.ranges.proofs.renew.mark.Tie as tie
+use Rattle.ranges.proofs.renew.mark.Reads as reads
+use Rattle.ranges.proofs.renew.mark.Lts as lts
+use Rattle.ranges.proofs.page_words.bit_word.Reads as bit-word-reads
 
 abbrev Inv-loop : tie.InvT-loop
-Inv-loop part₀ n first k₀ part k = (k ≤ n) × ((length part ≡ length part₀) × Marked part₀ first k part)
+Inv-loop part₀ n bit first k₀ part k = (k ≤ n) × ((length part ≡ length part₀) × Marked bit part₀ first k part)
 
 abbrev μ-loop : tie.MeasureT-loop
-μ-loop part₀ n first k₀ part k = n - k
+μ-loop part₀ n bit first k₀ part k = n - k
 
--- src/renew.rt:24:5
+-- src/renew.rt:30:5
 loop-holds : tie.Need-loop-holds Inv-loop μ-loop
-loop-holds c = (zero-le, (refl, mark-none _ _))
+loop-holds c = (zero-le, (refl, mark-none _ _ _))
 
--- src/renew.rt:25:19
+-- src/renew.rt:31:19
 add-at : tie.Need-add-at Inv-loop μ-loop
 add-at c = search needs
 
--- src/renew.rt:25:18
+-- src/renew.rt:31:18
 cast-at : tie.Need-cast-at Inv-loop μ-loop
 cast-at c = search needs
 
--- src/renew.rt:26:35
+-- src/renew.rt:32:34
 mul-bit-word : tie.Need-mul-bit-word Inv-loop μ-loop
 mul-bit-word c = search needs
 
--- src/renew.rt:26:35
+-- src/renew.rt:32:34
 slice-read-bit-word : tie.Need-slice-read-bit-word Inv-loop μ-loop
 slice-read-bit-word c = search needs
 
--- src/renew.rt:26:20
+-- src/renew.rt:32:20
 bit-word-requires : tie.Need-bit-word-requires Inv-loop μ-loop
 bit-word-requires c κs = search needs
 
--- src/renew.rt:26:9
+-- src/renew.rt:32:9
 mul-part : tie.Need-mul-part Inv-loop μ-loop
 mul-part c = search needs
 
--- src/renew.rt:26:9
+-- src/renew.rt:32:9
 slice-write-part : tie.Need-slice-write-part Inv-loop μ-loop
 slice-write-part c = search needs
 
--- src/renew.rt:27:9
+-- src/renew.rt:33:9
 add-k : tie.Need-add-k Inv-loop μ-loop
 add-k c = search needs
 
--- src/renew.rt:24:5
+-- src/renew.rt:30:5
 loop-less : tie.Need-loop-less Inv-loop μ-loop
 loop-less c = search needs
 
--- src/renew.rt:24:5
+-- src/renew.rt:30:5
 loop-again : tie.Need-loop-again Inv-loop μ-loop
-loop-again c = (omega arith, (simp length-set (omega arith), mark-more _ _ _ _ _ (omega arith) (c .before .before .before .loop .inv .1 .1) (c .bit-word .ensures)))
+loop-again c = (omega arith, (simp length-set (omega arith), mark-more _ _ _ _ _ _ (omega arith) (c .before .before .before .loop .inv .1 .1) (c .bit-word .ensures)))
 
--- src/renew.rt:17:1
+-- src/renew.rt:23:1
 same-length : tie.Need-same-length Inv-loop μ-loop
-same-length c = search needs
+same-length c = c .before .loop .inv .1 .0
 
--- src/renew.rt:17:1
+-- src/renew.rt:23:1
 returns : tie.Need-returns Inv-loop μ-loop
-returns c = let e : c .before .loop .k ≡ c .before .before .before .args .n = omega arith in rw (← e) (c .before .loop .inv .1 .1)
+returns c =
+    let e : c .before .loop .k ≡ c .before .before .before .args .n = omega arith in
+    rw e at (c .before .loop .inv .1 .1)
 
 pub mark-spec : {M : Type 1} → statement M
 mark-spec =
