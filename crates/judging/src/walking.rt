@@ -18,9 +18,7 @@ use ranges::page_words::mapped;
 use ranges::walk::Stretch;
 use ranges::walk::goes_on;
 use ranges::walk::joined;
-use ranges::walk::nowhere;
-use ranges::walk::onward_from;
-use ranges::walk::over_empty;
+use ranges::walk::over;
 use runs::Page;
 use words::scans::counts_to;
 
@@ -98,15 +96,12 @@ fn over_fitting(frames: &[u32], pool: u32, first: u32, part: &[u32], b: Page, w:
     ensures { λ r. ⌜ r .last ≡ w + r .mapped ⌝ }
     ensures { λ r. ⌜ Named (now (frames .entry)) pool (frameIn w) (first + b .0) (r .mapped) ⌝ }
 {
-    if w == 0 {
-        return over_empty(part, b);
-    }
-    if !mapped(w) {
-        return nowhere(w);
+    let far = over(part, b, w);
+    if far.mapped == 0 {
+        return far;
     }
     let place = first + b.0;
-    let k = onward_from(part, b, w);
-    let pages = named_after(frames, pool, frame_in(w), place, k);
+    let pages = named_after(frames, pool, frame_in(w), place, far.mapped);
     Stretch {
         pages,
         mapped: pages,

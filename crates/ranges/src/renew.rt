@@ -4,19 +4,15 @@ ghost use Prim.Native.Nat.{_+_, _≤_};
 ghost use lib.ListN.{length};
 ghost use lib.Seq.{sets};
 ghost use Rattle.runs.specs.Walk.{entryOf, ended, withBits, rangeWords};
-ghost use Rattle.runs.specs.Steps.{Along, Marked, EndedRun, zeroFrom};
+ghost use Rattle.runs.specs.Steps.{Marked, EndedRun, zeroFrom};
 use crate::page_words::bit_word;
 use crate::page_words::frame_in;
-use crate::page_words::mapped;
 use crate::page_words::offset;
 use crate::page_words::range_bit;
 use crate::page_words::rights_in;
-use crate::walk::Stretch;
 use crate::walk::goes_on;
 use crate::walk::joined;
-use crate::walk::nowhere;
-use crate::walk::onward_from;
-use crate::walk::over_empty;
+use crate::walk::over;
 use runs::Page;
 
 // Gives n pages from page a on the range bit.
@@ -85,27 +81,6 @@ fn zero_from(ranges: &mut [u32], at: usize)
     while j < ranges.len() {
         ranges[j] = 0;
         j += 1;
-    }
-}
-
-// The pages from page b on, after word w, that a walk passes at once: unmapped ones, or those that go on the run of w.
-fn over(part: &[u32], b: Page, w: u32) -> Stretch
-    requires { ⌜ length (now part) ≡ 1024 ⌝ }
-    requires { ⌜ b .0 ≤ 1024 ⌝ }
-    ensures { λ r. ⌜ Along (now (part .entry)) (b .0) w (r .pages) (r .mapped) ⌝ }
-    ensures { λ r. ⌜ r .last ≡ w + r .mapped ⌝ }
-{
-    if w == 0 {
-        return over_empty(part, b);
-    }
-    if !mapped(w) {
-        return nowhere(w);
-    }
-    let pages = onward_from(part, b, w);
-    Stretch {
-        pages,
-        mapped: pages,
-        last: w + pages,
     }
 }
 

@@ -5,7 +5,7 @@ ghost use Prim.Native.Nat.{_+_, _≤_};
 ghost use lib.ListN.{length};
 ghost use Rattle.runs.specs.PageWords.{mapped};
 ghost use Rattle.runs.specs.Walk.{joins, goesOn};
-ghost use Rattle.runs.specs.Steps.{Empty, Onward};
+ghost use Rattle.runs.specs.Steps.{Empty, Onward, Along};
 use crate::page_words::frame_in;
 use crate::page_words::mapped;
 use crate::page_words::rights_in;
@@ -57,7 +57,7 @@ fn least(a: u32, b: u32) -> u32
 }
 
 // How many pages from page b on go on the run of word v before them, by words that count up from it.
-pub fn onward_from(part: &[u32], b: Page, v: u32) -> u32
+fn onward_from(part: &[u32], b: Page, v: u32) -> u32
     requires { ⌜ length (now part) ≡ 1024 ⌝ }
     requires { ⌜ b .0 ≤ 1024 ⌝ }
     requires { ⌜ mapped v ≡ true ⌝ }
@@ -78,7 +78,7 @@ pub struct Stretch {
 }
 
 // No page after word w.
-pub fn nowhere(w: u32) -> Stretch
+fn nowhere(w: u32) -> Stretch
     ensures { λ r. ⌜ (r .pages ≡ 0) × (r .mapped ≡ 0) ⌝ }
     ensures { λ r. ⌜ r .last ≡ w + r .mapped ⌝ }
 {
@@ -90,7 +90,7 @@ pub fn nowhere(w: u32) -> Stretch
 }
 
 // The unmapped pages from page b on, after a word 0.
-pub fn over_empty(part: &[u32], b: Page) -> Stretch
+fn over_empty(part: &[u32], b: Page) -> Stretch
     requires { ⌜ length (now part) ≡ 1024 ⌝ }
     requires { ⌜ b .0 ≤ 1024 ⌝ }
     ensures { λ r. ⌜ Empty (now (part .entry)) (b .0) (r .pages) ⌝ }
@@ -102,5 +102,26 @@ pub fn over_empty(part: &[u32], b: Page) -> Stretch
         pages: (end - from) as u32,
         mapped: 0,
         last: 0,
+    }
+}
+
+// The pages from page b on, after word w, that a walk passes at once: unmapped ones, or those that go on the run of w.
+pub fn over(part: &[u32], b: Page, w: u32) -> Stretch
+    requires { ⌜ length (now part) ≡ 1024 ⌝ }
+    requires { ⌜ b .0 ≤ 1024 ⌝ }
+    ensures { λ r. ⌜ Along (now (part .entry)) (b .0) w (r .pages) (r .mapped) ⌝ }
+    ensures { λ r. ⌜ r .last ≡ w + r .mapped ⌝ }
+{
+    if w == 0 {
+        return over_empty(part, b);
+    }
+    if !mapped(w) {
+        return nowhere(w);
+    }
+    let pages = onward_from(part, b, w);
+    Stretch {
+        pages,
+        mapped: pages,
+        last: w + pages,
     }
 }

@@ -178,6 +178,12 @@ along-room ws i w p m h nowhere = (omega arith, zero-le)
 along-room ws i w p m h (empty z e) = (e .room, zero-le)
 along-room ws i w p m h (onward t o) = (o .room, omega arith)
 
+-- where some of it is mapped, it goes on the run
+pub along-run : (ws : List ℕ) (i w p m : ℕ) → Along ws i w p m → (m ≡ 0 → ⊥) → (mapped w ≡ true) × Onward ws i w m
+along-run ws i w p m nowhere n = absurd (n refl)
+along-run ws i w p m (empty z e) n = absurd (n refl)
+along-run ws i w p m (onward t o) n = (t, o)
+
 -- no run goes before a word 0
 pub run-none : (ws rs : List ℕ) (i n v at : ℕ) → Walked ws rs i n v at → v ≡ 0 → n ≡ 0
 run-none ws rs i n v at s z =
