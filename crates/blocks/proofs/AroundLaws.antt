@@ -3,7 +3,7 @@ use mathlib.Core.Path.{_≡_, refl, ap, _∙_, sym}
 use mathlib.Core.Bool.{Bool, true, false, not}
 use mathlib.Core.Option.{Option, some}
 use Prim.Native.Nat.{ℕ, suc, _+_, _*_, _/_, _%_, _^_, _-_, _<_, _≤_, zero-le}
-use native.Mathlib.Nat.{div-add-mod', mod-lt, div-one, mul-assoc}
+use native.Mathlib.Nat.{div-add-mod', mod-lt, mod-eq-of-lt, div-one, mul-assoc}
 use native.Mathlib.Decide.{decLe}
 use native.Mathlib.Omega.{arith}
 use lib.Arith.{digits-div}
@@ -83,6 +83,11 @@ start-same k f g e = ap (λ (x : ℕ). x * 2 ^ k) e
 
 pub start-in : (k f : ℕ) → startOf k f / 2 ^ k ≡ f / 2 ^ k
 start-in k f = block-in k f (startOf k f) (omega arith) (omega (arith, pow-pos k))
+
+-- the start by shifts, in a word of w bits
+pub start-shifted : (w k f : ℕ) → f < 2 ^ w → f / 2 ^ k * 2 ^ k % 2 ^ w ≡ startOf k f
+unfolding startOf
+start-shifted w k f h = mod-eq-of-lt (let low : startOf k f ≤ f = in-block k f f refl .0 in omega arith)
 
 pub start-start : (k f : ℕ) → startOf k (startOf k f) ≡ startOf k f
 start-start k f = start-same k f (startOf k f) (start-in k f)

@@ -3,7 +3,7 @@ use mathlib.Core.Path.{_≡_, refl, ap, _∙_, sym}
 use mathlib.Core.Bool.{Bool, true, false}
 use mathlib.Core.List.{List}
 use mathlib.Core.Option.{some}
-use Prim.Native.Nat.{ℕ, _+_, _/_, _%_, _^_, _-_, _<_, _≤_, zero-le}
+use Prim.Native.Nat.{ℕ, _+_, _/_, _^_, _-_, _<_, _≤_, zero-le}
 use native.Mathlib.Decide.{decLt, decLe, ℕ-discrete}
 use native.Mathlib.Omega.{arith}
 use lib.ListN.{length, getD, set}
@@ -19,8 +19,8 @@ use Rattle.words.proofs.PowerLaws.{double}
 use Rattle.blocks.specs.FrameWords.{ownerOf, ownersOf, freeIn, heldIn, lawful, frameWord, frameWords}
 use Rattle.blocks.specs.Around.{startOf, around, freeOrder, orderWord}
 use Rattle.blocks.specs.Passes.{Edge, SettledTo, Checked}
-use Rattle.blocks.proofs.AroundLaws.{mod-start, start-mod, finer, coarser, in-block, block-in, start-same, around-at, at-around, around-same, smaller, around-ext, free-around, Maximal, order-here, maximal-order, maximal-same}
-use Rattle.blocks.proofs.WordLaws.{not-owner, owner-low, owner-high, owners-small, free-same, free-zero, is-held, start-word, other-word, free-frame, held-word, high-word, word-ext, words-ext, owner-back, lawful-yes, lawful-no}
+use Rattle.blocks.proofs.AroundLaws.{finer, coarser, in-block, block-in, start-same, around-at, at-around, around-same, smaller, around-ext, free-around, Maximal, order-here, maximal-order, maximal-same}
+use Rattle.blocks.proofs.WordLaws.{not-owner, owner-low, owner-high, owners-small, free-same, free-zero, is-free, is-held, start-word, other-word, free-frame, held-word, high-word, word-ext, words-ext, owner-back, lawful-yes, lawful-no}
 
 -- edges
 
@@ -187,52 +187,50 @@ module _ (F : ℕ) (free : ℕ → Bool) (f : ℕ) (edge : Edge F free f) where
   start-zero h t = free-around F free f h t
 
   -- no larger block: this is the freeOrder
-  pub no-more : (k : ℕ) → k ≤ 10 → around F free f k ≡ true → (k < 10 → around F free f (k + 1) ≡ true → ⊥) → freeOrder F free f ≡ some k
+  pub no-more : (k : ℕ) → k ≤ 10 → around F free f k ≡ true → (k < 10 → around F free f (k + 1) ≡ false) → freeOrder F free f ≡ some k
   no-more k h t stop =
       maximal-order F free k f (record {
         small = h;
         whole = t;
         alone = λ m km hm. by-test (around F free f m)
-            (λ y. absurd (stop (omega arith) (smaller F free (k + 1) m f (omega arith) y)))
+            (λ y. true-false (around F free f (k + 1)) (smaller F free (k + 1) m f (omega arith) y) (stop (omega arith)))
             (λ y. y);
       })
 
-  module _ (k z : ℕ) (size : z ≡ 2 ^ k) (h : k < 10) where
-    twice : z + z ≡ 2 ^ (k + 1)
-    twice = rw size (double k)
+  -- the block of the next order
+  module _ (k : ℕ) (h : k < 10) where
+    pub odd-start : (startOf (k + 1) f ≡ f → ⊥) → false ≡ around F free f (k + 1)
+    odd-start n = by-test (around F free f (k + 1)) (λ t. absurd (n (edge .starts (k + 1) (omega arith) t))) (λ t. sym t)
 
-    pub odd-start : (f % (z + z) ≡ 0 → ⊥) → around F free f (k + 1) ≡ true → ⊥
-    odd-start n t = n (rw twice (start-mod (k + 1) f (edge .starts (k + 1) (omega arith) t)))
-
-    pub past-end : F < f + (z + z) → around F free f (k + 1) ≡ true → ⊥
-    past-end n t =
+    pub past-end : (y : ℕ) → y ≡ 2 ^ (k + 1) → F < f + y → false ≡ around F free f (k + 1)
+    past-end y size n =
+        by-test (around F free f (k + 1))
+        (λ t.
         let st = edge .starts (k + 1) (omega arith) t in
-        let d = twice in
         let pos : 0 < 2 ^ (k + 1) = pow-pos (k + 1) in
         let last = around-at F free (k + 1) f t (f + (2 ^ (k + 1) - 1)) (block-in (k + 1) f _ (omega arith) (omega arith)) in
-        omega (arith, last .0)
+        absurd (omega (arith, last .0)))
+        (λ t. sym t)
 
-    pub not-clear : allFrom (f + (z + z) - (f + z)) (f + z) free ≡ false → around F free f (k + 1) ≡ true → ⊥
-    not-clear n t =
-        let st = edge .starts (k + 1) (omega arith) t in
-        let d = twice in
-        true-false (allFrom (f + (z + z) - (f + z)) (f + z) free)
-        (at-allFrom _ _ free (λ g lo hi. around-at F free (k + 1) f t g (block-in (k + 1) f g (omega arith) (omega arith)) .1)) n
-
-    pub grown : around F free f k ≡ true → f % (z + z) ≡ 0 → f + (z + z) ≤ F
-        → allFrom (f + (z + z) - (f + z)) (f + z) free ≡ true → around F free f (k + 1) ≡ true
-    grown t md room clear =
-        let d = twice in
-        let r0 : f % 2 ^ (k + 1) ≡ 0 = rw (sym d) md in
-        let st : startOf (k + 1) f ≡ f = mod-start (k + 1) f r0 in
+    -- its lower half is free, so its upper half decides
+    pub upper-decides : (z y : ℕ) → z ≡ 2 ^ k → y ≡ 2 ^ (k + 1) → around F free f k ≡ true → startOf (k + 1) f ≡ f → f + y ≤ F
+        → allFrom (f + y - (f + z)) (f + z) free ≡ around F free f (k + 1)
+    upper-decides z y half whole low st room =
+        let d = double k in
+        by-test (allFrom (f + y - (f + z)) (f + z) free)
+        (λ clear.
         let st0 : startOf k f ≡ f = finer k (k + 1) f (omega arith) st in
-        at-around F free (k + 1) f (λ g e.
+        clear ∙ sym (at-around F free (k + 1) f (λ g e.
         let r = in-block (k + 1) f g e in
         let lo = r .0 in
         let hi = r .1 in
         by-dec (decLt g (f + z))
-        (λ low. around-at F free k f t g (block-in k f g (omega arith) (omega arith)))
-        (λ high. (omega arith, allFrom-at _ _ free clear g (omega arith) (omega arith))))
+        (λ lt. around-at F free k f low g (block-in k f g (omega arith) (omega arith)))
+        (λ ge. (omega arith, allFrom-at _ _ free clear g (omega arith) (omega arith))))))
+        (λ held. by-test (around F free f (k + 1))
+        (λ t. true-false (allFrom (f + y - (f + z)) (f + z) free)
+        (at-allFrom _ _ free (λ g lo hi. around-at F free (k + 1) f t g (block-in (k + 1) f g (omega arith) (omega arith)) .1)) held)
+        (λ t. held ∙ sym t))
 
 -- one step of the check
 
@@ -241,7 +239,7 @@ module _ (F : ℕ) (b : List ℕ) (f : ℕ) (h : f < F) (edge : Edge F (freeIn b
   check-held n = record { good = λ z. held-step F b f h edge n; others = λ g lo hi. absurd (omega arith); bad = λ z. absurd (omega arith) }
 
   module _ (k : ℕ) (t : freeIn b f ≡ true) (e : freeOrder F (freeIn b) f ≡ some k) where
-    pub check-first : (getD b f 0 ≡ 16384 + k → ⊥) → Checked F b f 0
+    check-first : (getD b f 0 ≡ 16384 + k → ⊥) → Checked F b f 0
     check-first n = let x = block-here F b f h edge k t e in record { good = λ z. absurd (z refl); others = λ g lo hi. absurd (omega arith); bad = λ z. (f, h, λ q. n (q ∙ x .first)) }
 
     module _ (z : ℕ) (size : z ≡ 2 ^ k) where
@@ -259,7 +257,7 @@ module _ (F : ℕ) (b : List ℕ) (f : ℕ) (h : f < F) (edge : Edge F (freeIn b
               let hi = r .2 in
               (r .0, omega arith, λ q. true-false (sameIn b 8192 (r .0)) (eq-eqb _ _ (q ∙ x .others (r .0) (omega arith) (omega arith))) (r .3))
 
-      pub check-block : getD b f 0 ≡ 16384 + k → allFrom (f + z - (f + 1)) (f + 1) (sameIn b 8192) ≡ true → Checked F b f (f + z)
+      check-block : getD b f 0 ≡ 16384 + k → allFrom (f + z - (f + 1)) (f + 1) (sameIn b 8192) ≡ true → Checked F b f (f + z)
       unfolding sameIn heldIn
       check-block first others =
           let x = block-here F b f h edge k t e in
@@ -283,6 +281,51 @@ module _ (F : ℕ) (b : List ℕ) (f : ℕ) (h : f < F) (edge : Edge F (freeIn b
         where
           other-frame : (g : ℕ) → getD b g 0 ≡ 8192 → heldIn b g ≡ false
           other-frame g w = not-owner (getD b g 0) (omega arith)
+
+  -- the head word names an order
+  module _ (t : freeIn b f ≡ true) where
+    -- none that a block can have
+    pub check-none : ((k : ℕ) → k ≤ 10 → getD b f 0 ≡ 16384 + k → ⊥) → Checked F b f 0
+    check-none n = let q = order-here F (freeIn b) f h t in check-first (q .0) t (q .1) (n (q .0) (q .2 .small))
+
+    -- one that is wrong where the block of that order is not lawful
+    pub check-order : (k : ℕ) → getD b f 0 ≡ 16384 + k → (freeOrder F (freeIn b) f ≡ some k → Checked F b f 0) → Checked F b f 0
+    check-order k w bad =
+        let q = order-here F (freeIn b) f h t in
+        by-dec (ℕ-discrete (q .0) k)
+        (λ e. bad (q .1 ∙ ap some e))
+        (λ ne. check-first (q .0) t (q .1) (λ e. ne (omega arith)))
+
+    -- no block of that order starts here
+    pub check-start : (k : ℕ) → getD b f 0 ≡ 16384 + k → (startOf k f ≡ f → ⊥) → Checked F b f 0
+    check-start k w n = check-order k w (λ e. absurd (n (block-here F b f h edge k t e .starts)))
+
+    pub check-end : (k z : ℕ) → z ≡ 2 ^ k → getD b f 0 ≡ 16384 + k → F < f + z → Checked F b f 0
+    check-end k z size w n = check-order k w (λ e. absurd (omega (arith, level-fits F b f h edge k t e .0)))
+
+    -- that block is half of a wholly free one
+    pub check-larger : (k : ℕ) → k < 10 → getD b f 0 ≡ 16384 + k → around F (freeIn b) f (k + 1) ≡ true → Checked F b f 0
+    check-larger k less w y = check-order k w (λ e. true-false (around F (freeIn b) f (k + 1)) y (block-here F b f h edge k t e .maximal .alone (k + 1) (omega arith) (omega arith)))
+
+    -- the other words say that they are free
+    pub block-free : (k z : ℕ) → z ≡ 2 ^ k → startOf k f ≡ f → f + z ≤ F → allFrom (f + z - (f + 1)) (f + 1) (sameIn b 8192) ≡ true → around F (freeIn b) f k ≡ true
+    unfolding sameIn
+    block-free k z size st room others =
+        at-around F (freeIn b) k f (λ g e.
+        let r = in-block k f g e in
+        let lo = r .0 in
+        let hi = r .1 in (
+          omega arith,
+          by-dec (ℕ-discrete g f)
+              (λ gf. rw gf t)
+              (λ ne. is-free b g (let w : getD b g 0 ≡ 8192 = eqb-true _ _ (allFrom-at _ _ (sameIn b 8192) others g (omega arith) (omega arith)) in owner-high _ (omega arith))),
+        ))
+
+    -- and that block is half of no wholly free one
+    pub check-largest : (k z : ℕ) → z ≡ 2 ^ k → k ≤ 10 → getD b f 0 ≡ 16384 + k → startOf k f ≡ f → f + z ≤ F
+        → allFrom (f + z - (f + 1)) (f + 1) (sameIn b 8192) ≡ true → (k < 10 → around F (freeIn b) f (k + 1) ≡ false) → Checked F b f (f + z)
+    check-largest k z size small w st room others stop =
+        check-block k t (no-more F (freeIn b) f edge k small (block-free k z size st room others) stop) z size w others
 
 -- a wrong word
 pub lawful-wrong : (F : ℕ) (b : List ℕ) → F ≤ 4096 → (g : ℕ) × (g < F) × (getD b g 0 ≡ frameWord F (ownersOf b) g → ⊥) → false ≡ lawful F b

@@ -1,14 +1,15 @@
 // The check whether a buffer is lawful: the pass that settles, read as a comparison.
 ghost use mathlib.Core.Path.{_≡_};
 ghost use mathlib.Core.Bool.{true};
-ghost use Prim.Native.Nat.{ℕ, _≤_, _<_};
+ghost use Prim.Native.Nat.{_≤_, _<_};
 ghost use lib.ListN.{length};
 ghost use Rattle.words.specs.Counts.{count, one-if};
 ghost use Rattle.blocks.specs.FrameWords.{isOwner, freeIn, heldIn, lawful};
 ghost use Rattle.blocks.specs.Passes.{Edge, Checked};
 use crate::buffer::owner_of;
 use crate::buffer::size_of;
-use crate::settling::grow;
+use crate::settling::can_start;
+use crate::settling::grows;
 use blocks::Frame;
 use words::scans::all_same;
 
@@ -16,6 +17,44 @@ use words::scans::all_same;
 pub struct Judged {
     pub lawful: bool,
     pub held: u32,
+}
+
+// The frame after the free block at f, or frame 0 where its words are not lawful.
+// The words themselves are asked for the order, and each is read once; only the other half of the next larger block is read twice.
+fn block_at(frames: &[u32], pool: u32, f: Frame) -> Frame
+    requires { ⌜ length (now frames) ≡ 4096 ⌝ }
+    requires { ⌜ pool ≤ 4096 ⌝ }
+    requires { ⌜ f .0 < pool ⌝ }
+    requires { ⌜ freeIn (now frames) (f .0) ≡ true ⌝ }
+    requires { ⌜ Edge pool (freeIn (now frames)) (f .0) ⌝ }
+    ensures { λ r. ⌜ Checked pool (now (frames .entry)) (f .0) (r .0) ⌝ }
+{
+    let at = f.0 as usize;
+    let w = frames[at];
+    if w < 16384 {
+        return Frame(0);
+    }
+    if 16394 < w {
+        return Frame(0);
+    }
+    let k = w - 16384;
+    if !can_start(f, k) {
+        return Frame(0);
+    }
+    let end = f.0 + size_of(k);
+    if pool < end {
+        return Frame(0);
+    }
+    if !all_same(frames, at + 1, end as usize, 8192) {
+        return Frame(0);
+    }
+    if k == 10 {
+        return Frame(end);
+    }
+    if grows(frames, pool, f, k) {
+        return Frame(0);
+    }
+    Frame(end)
 }
 
 // The frame after the held frame or the free block at f, or frame 0 where its words are not lawful.
@@ -26,22 +65,11 @@ fn lawful_at(frames: &[u32], pool: u32, f: Frame) -> Frame
     requires { ⌜ Edge pool (freeIn (now frames)) (f .0) ⌝ }
     ensures { λ r. ⌜ Checked pool (now (frames .entry)) (f .0) (r .0) ⌝ }
 {
-    let at = f.0 as usize;
-    let w = frames[at];
-    let o = owner_of(w);
+    let o = owner_of(frames[f.0 as usize]);
     if o != 0 {
         return Frame(f.0 + 1);
     }
-    let k = grow(frames, pool, f);
-    if w != 16384 + k {
-        return Frame(0);
-    }
-    let end = f.0 + size_of(k);
-    let same = all_same(frames, at + 1, end as usize, 8192);
-    if !same {
-        return Frame(0);
-    }
-    Frame(end)
+    block_at(frames, pool, f)
 }
 
 fn one_if_held(w: u32) -> u32

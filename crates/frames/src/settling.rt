@@ -1,17 +1,49 @@
 // Settling: every frame word made from the owner words alone.
 ghost use mathlib.Core.Path.{_≡_};
-ghost use mathlib.Core.Bool.{Bool, true, false};
+ghost use mathlib.Core.Bool.{true, false};
 ghost use mathlib.Core.Option.{some};
-ghost use Prim.Native.Nat.{ℕ, _+_, _≤_, _<_};
+ghost use Prim.Native.Nat.{_+_, _≤_, _<_};
+ghost use lib.Dec.{eqb};
 ghost use lib.ListN.{length};
 ghost use Rattle.blocks.specs.FrameWords.{ownersOf, freeIn, frameWords};
-ghost use Rattle.blocks.specs.Around.{freeOrder};
+ghost use Rattle.blocks.specs.Around.{startOf, around, freeOrder};
 ghost use Rattle.blocks.specs.Passes.{Edge, SettledTo};
 use crate::buffer::all_free;
 use crate::buffer::fill;
 use crate::buffer::owner_of;
 use crate::buffer::size_of;
 use blocks::Frame;
+
+// Whether frame f is the start of a block of order k.
+pub fn can_start(f: Frame, k: u32) -> bool
+    requires { ⌜ f .0 < 4096 ⌝ }
+    requires { ⌜ k ≤ 10 ⌝ }
+    ensures { λ r. ⌜ r ≡ eqb (startOf k (f .0)) (f .0) ⌝ }
+{
+    let at = f.0;
+    (at >> k) << k == at
+}
+
+// Whether the wholly free block of order k at f is half of a wholly free one.
+pub fn grows(frames: &[u32], pool: u32, f: Frame, k: u32) -> bool
+    requires { ⌜ length (now frames) ≡ 4096 ⌝ }
+    requires { ⌜ pool ≤ 4096 ⌝ }
+    requires { ⌜ f .0 < pool ⌝ }
+    requires { ⌜ k < 10 ⌝ }
+    requires { ⌜ Edge pool (freeIn (now frames)) (f .0) ⌝ }
+    requires { ⌜ around pool (freeIn (now frames)) (f .0) k ≡ true ⌝ }
+    ensures { λ r. ⌜ r ≡ around pool (freeIn (now (frames .entry))) (f .0) (k + 1) ⌝ }
+{
+    if !can_start(f, k + 1) {
+        return false;
+    }
+    let half = f.0 + size_of(k);
+    let end = f.0 + size_of(k + 1);
+    if pool < end {
+        return false;
+    }
+    all_free(frames, half as usize, end as usize)
+}
 
 // The order of the free block that starts at frame f.
 pub fn grow(frames: &[u32], pool: u32, f: Frame) -> u32
@@ -22,22 +54,11 @@ pub fn grow(frames: &[u32], pool: u32, f: Frame) -> u32
     requires { ⌜ Edge pool (freeIn (now frames)) (f .0) ⌝ }
     ensures { λ r. ⌜ freeOrder pool (freeIn (now (frames .entry))) (f .0) ≡ some r ⌝ }
 {
-    let at = f.0;
     let mut k = 0;
-    let mut size: u32 = 1;
     while k < 10 {
-        let twice = size + size;
-        if at % twice != 0 {
+        if !grows(frames, pool, f, k) {
             return k;
         }
-        if pool < at + twice {
-            return k;
-        }
-        let clear = all_free(frames, (at + size) as usize, (at + twice) as usize);
-        if !clear {
-            return k;
-        }
-        size = twice;
         k += 1;
     }
     k

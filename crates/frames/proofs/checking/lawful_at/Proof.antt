@@ -1,78 +1,55 @@
+use mathlib.Core.Path.{sym, _∙_}
+use Rattle.blocks.proofs.WordLaws.{is-free}
+use Rattle.blocks.proofs.SettleLaws.{check-held}
 use borrow.Author.Needs.{needs}
 use Rattle.frames.proofs.checking.lawful_at.Statement.{statement}
 use Rattle.frames.proofs.checking.lawful_at.Tie as tie
-use mathlib.Core.Path.{sym, _∙_}
-use Prim.Native.Nat.{_-_}
-use native.Mathlib.Omega.{arith}
-use borrow.Author.Tests.{not-true, not-false}
-use Rattle.blocks.proofs.WordLaws.{is-free}
-use Rattle.blocks.proofs.SettleLaws.{level-fits, check-held, check-first, check-others, check-block}
+use Rattle.frames.proofs.checking.lawful_at.Reads as reads
+use Rattle.frames.proofs.checking.lawful_at.Lts as lts
+use Rattle.frames.proofs.buffer.owner_of.Reads as owner-of-reads
+use Rattle.frames.proofs.checking.block_at.Reads as block-at-reads
 
-cast-at : tie.Need-cast-at
-cast-at c = search needs
+-- src/checking.rt:68:29
+cast-owner-of : tie.Need-cast-owner-of
+cast-owner-of c = search needs
 
-mul-w : tie.Need-mul-w
-mul-w c = search needs
+-- src/checking.rt:68:22
+mul-owner-of : tie.Need-mul-owner-of
+mul-owner-of c = search needs
 
-shared-slice-read-w : tie.Need-shared-slice-read-w
-shared-slice-read-w c = search needs
+-- src/checking.rt:68:22
+shared-slice-read-owner-of : tie.Need-shared-slice-read-owner-of
+shared-slice-read-owner-of c = search needs
 
+-- src/checking.rt:68:9
 owner-of-requires : tie.Need-owner-of-requires
 owner-of-requires c κs = search needs
 
-add-t14 : tie.Need-add-t14
-add-t14 c = search needs
+-- src/checking.rt:70:22
+add-t10 : tie.Need-add-t10
+add-t10 c = search needs
 
+-- src/checking.rt:70:9
 returns : tie.Need-returns
 returns c = check-held _ _ _ (c .before .before .before .before .before .before .pre .1 .1 .0) (c .before .before .before .before .before .before .pre .1 .1 .1) (λ e. c .before .if1 .taken (c .before .before .owner-of .ensures ∙ e))
 
-grow-requires : tie.Need-grow-requires
-grow-requires c κs = (c .before .before .before .before .before .pre .0, (c .before .before .before .before .before .pre .1 .0, (c .before .before .before .before .before .pre .1 .1 .0, (is-free _ _ (sym (c .before .owner-of .ensures) ∙ c .if1 .left), c .before .before .before .before .before .pre .1 .1 .1))))
+-- src/checking.rt:72:5
+block-at-requires : tie.Need-block-at-requires
+block-at-requires c κs = (c .before .before .before .before .before .pre .0, (c .before .before .before .before .before .pre .1 .0, (c .before .before .before .before .before .pre .1 .1 .0, (is-free _ _ (sym (c .before .owner-of .ensures) ∙ c .if1 .left), c .before .before .before .before .before .pre .1 .1 .1))))
 
-add-if2 : tie.Need-add-if2
-add-if2 c = let w = level-fits _ _ _ (c .before .before .before .before .before .before .pre .1 .1 .0) (c .before .before .before .before .before .before .pre .1 .1 .1) _ (is-free _ _ (sym (c .before .before .owner-of .ensures) ∙ c .before .if1 .left)) (c .grow .ensures) in omega (arith, w .1)
-
+-- src/checking.rt:61:1
 returns-2 : tie.Need-returns-2
-returns-2 c = check-first _ _ _ (c .before .before .before .before .before .before .before .pre .1 .1 .0) (c .before .before .before .before .before .before .before .pre .1 .1 .1) _ (is-free _ _ (sym (c .before .before .before .owner-of .ensures) ∙ c .before .before .if1 .left)) (c .before .grow .ensures) (c .if2 .taken)
-
-size-of-requires : tie.Need-size-of-requires
-size-of-requires c κs = let w = level-fits _ _ _ (c .before .before .before .before .before .before .before .pre .1 .1 .0) (c .before .before .before .before .before .before .before .pre .1 .1 .1) _ (is-free _ _ (sym (c .before .before .before .owner-of .ensures) ∙ c .before .before .if1 .left)) (c .before .grow .ensures) in w .1
-
-add-end : tie.Need-add-end
-add-end c = let w = level-fits _ _ _ (c .before .before .before .before .before .before .before .before .before .pre .1 .1 .0) (c .before .before .before .before .before .before .before .before .before .pre .1 .1 .1) _ (is-free _ _ (sym (c .before .before .before .before .before .owner-of .ensures) ∙ c .before .before .before .before .if1 .left)) (c .before .before .before .grow .ensures) in omega (arith, w .0)
-
-add-all-same : tie.Need-add-all-same
-add-all-same c = search needs
-
-cast-all-same : tie.Need-cast-all-same
-cast-all-same c = let w = level-fits _ _ _ (c .before .before .before .before .before .before .before .before .before .pre .1 .1 .0) (c .before .before .before .before .before .before .before .before .before .pre .1 .1 .1) _ (is-free _ _ (sym (c .before .before .before .before .before .owner-of .ensures) ∙ c .before .before .before .before .if1 .left)) (c .before .before .before .grow .ensures) in omega (arith, w .0)
-
-all-same-requires : tie.Need-all-same-requires
-all-same-requires c κs = let w = level-fits _ _ _ (c .before .before .before .before .before .before .before .before .before .pre .1 .1 .0) (c .before .before .before .before .before .before .before .before .before .pre .1 .1 .1) _ (is-free _ _ (sym (c .before .before .before .before .before .owner-of .ensures) ∙ c .before .before .before .before .if1 .left)) (c .before .before .before .grow .ensures) in (omega (arith, w .0), omega (arith, w .2))
-
-returns-3 : tie.Need-returns-3
-returns-3 c = check-others _ _ _ (c .before .before .before .before .before .before .before .before .before .before .before .pre .1 .1 .0) (c .before .before .before .before .before .before .before .before .before .before .before .pre .1 .1 .1) _ (is-free _ _ (sym (c .before .before .before .before .before .before .before .owner-of .ensures) ∙ c .before .before .before .before .before .before .if1 .left)) (c .before .before .before .before .before .grow .ensures) _ (c .before .before .before .size-of .ensures) (sym (c .before .all-same .ensures) ∙ not-true _ (c .if3 .taken))
-
-returns-4 : tie.Need-returns-4
-returns-4 c = check-block _ _ _ (c .before .before .before .before .before .before .before .before .before .before .before .pre .1 .1 .0) (c .before .before .before .before .before .before .before .before .before .before .before .pre .1 .1 .1) _ (is-free _ _ (sym (c .before .before .before .before .before .before .before .owner-of .ensures) ∙ c .before .before .before .before .before .before .if1 .left)) (c .before .before .before .before .before .grow .ensures) _ (c .before .before .before .size-of .ensures) (c .before .before .before .before .if2 .left) (sym (c .before .all-same .ensures) ∙ not-false _ (c .if3 .left))
+returns-2 c = search needs
 
 pub lawful-at-spec : {M : Type 1} → statement M
 lawful-at-spec =
     tie.close
     (tie.spec
-    cast-at
-    mul-w
-    shared-slice-read-w
+    cast-owner-of
+    mul-owner-of
+    shared-slice-read-owner-of
     owner-of-requires
-    add-t14
+    add-t10
     returns
-    grow-requires
-    add-if2
-    returns-2
-    size-of-requires
-    add-end
-    add-all-same
-    cast-all-same
-    all-same-requires
-    returns-3
-    returns-4)
+    block-at-requires
+    returns-2)
