@@ -13,10 +13,9 @@ use borrow.Author.Tests.{leb-true, ltb-true, eqb-true, eq-eqb, ne-eqb, le-leb, l
 use Rattle.words.specs.Counts.{count, one-if}
 use Rattle.words.specs.Searches.{anyFrom, allFrom}
 use Rattle.words.proofs.Cases.{by-test, by-dec, true-false, and-true, true-and}
-use Rattle.words.proofs.CountLaws.{one-if-le}
 use Rattle.words.proofs.SearchLaws.{at-any, any-none, any-more, allFrom-at, at-allFrom, some-fails}
 use Rattle.words.specs.Writes.{sameIn}
-use Rattle.blocks.specs.FrameWords.{ownerOf, ownersOf, freeOf, freeIn, frameWords}
+use Rattle.blocks.specs.FrameWords.{ownerOf, ownersOf, freeIn, frameWords}
 use Rattle.blocks.specs.Choice.{framesFor, blocksFor}
 use Rattle.blocks.specs.Owners.{put, give, inSpan, cleared, freed, holds}
 use Rattle.blocks.specs.Passes.{ClearedTo, MarkedOne, MarkedTo}
@@ -26,10 +25,6 @@ use Rattle.blocks.proofs.AllocateLaws.{put-same, put-other}
 
 -- counting free frames
 
-pub count-turn : (b : List ℕ) (f m r : ℕ) → m ≡ count f (freeIn b) → r ≡ one-if (eqb (ownerOf (getD b f 0)) 0) → m + r ≡ count (f + 1) (freeIn b)
-unfolding count freeIn freeOf ownersOf
-count-turn b f m r e q = let s : f + 1 ≡ suc f = omega arith in rw (s, e, q)
-
 pub one-free : (w o : ℕ) → o ≡ ownerOf w → o ≡ 0 → 1 ≡ one-if (eqb (ownerOf w) 0)
 unfolding one-if
 one-free w o e z = rw (eq-eqb _ _ (sym e ∙ z))
@@ -37,9 +32,6 @@ one-free w o e z = rw (eq-eqb _ _ (sym e ∙ z))
 pub one-held : (w o : ℕ) → o ≡ ownerOf w → (o ≡ 0 → ⊥) → 0 ≡ one-if (eqb (ownerOf w) 0)
 unfolding one-if
 one-held w o e n = rw (ne-eqb _ _ (λ z. n (e ∙ z)))
-
-pub one-small : (w r : ℕ) → r ≡ one-if (eqb (ownerOf w) 0) → r ≤ 1
-one-small w r e = let q = one-if-le (eqb (ownerOf w) 0) in omega arith
 
 -- the span of owners
 

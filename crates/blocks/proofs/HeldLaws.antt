@@ -1,43 +1,62 @@
--- Held frames, counted while the words are checked block after block.
-use mathlib.Core.Path.{_≡_, refl, _∙_}
+-- Held frames, passed over a stretch at a time and counted.
+use mathlib.Core.Path.{_≡_, refl}
+use mathlib.Core.Bool.{true, false}
 use mathlib.Core.List.{List}
-use Prim.Native.Nat.{ℕ, suc, _+_, _-_, _<_, _≤_}
+use Prim.Native.Nat.{ℕ, _+_, _-_, _<_, _≤_}
+use native.Mathlib.Decide.{decLt}
 use native.Mathlib.Omega.{arith}
 use lib.ListN.{getD}
-use Rattle.words.specs.Counts.{count, one-if}
-use Rattle.words.proofs.Cases.{by-test}
-use Rattle.words.proofs.CountLaws.{one-if-le, count-split, none-pass}
-use Rattle.blocks.specs.FrameWords.{isOwner, ownerOf, heldIn}
-use Rattle.blocks.specs.Passes.{Checked}
-use Rattle.blocks.proofs.WordLaws.{is-owner, owner-low, owner-false}
+use Rattle.words.specs.Counts.{count}
+use Rattle.words.proofs.Cases.{by-test, by-dec, true-false}
+use Rattle.words.proofs.CountLaws.{count-split, none-pass, all-pass, pass-none}
+use Rattle.blocks.specs.FrameWords.{isOwner, freeIn, heldIn}
+use Rattle.blocks.specs.Passes.{Checked, HeldTo}
+use Rattle.blocks.proofs.WordLaws.{owner-false, is-free}
 
--- one word
+-- a stretch
 
-pub counts-none : (w o : ℕ) → o ≡ ownerOf w → o ≡ 0 → 0 ≡ one-if (isOwner w)
-unfolding one-if
-counts-none w o e z =
-    by-test (isOwner w)
-    (λ t. let b = is-owner w t in absurd (omega (arith, b .0, owner-low w (b .1))))
-    (λ t. rw t)
+module _ (b : List ℕ) (s e : ℕ) where
+  pub held-none : s ≤ e → HeldTo b s e s
+  held-none h = record { from = omega arith; to = h; held = λ g lo hi. absurd (omega arith) }
 
-pub counts-one : (w o : ℕ) → o ≡ ownerOf w → (o ≡ 0 → ⊥) → 1 ≡ one-if (isOwner w)
-unfolding one-if
-counts-one w o e n = by-test (isOwner w) (λ t. rw t) (λ t. absurd (n (e ∙ owner-false w t)))
+  pub held-one : s < e → freeIn b s ≡ false → HeldTo b s e (s + 1)
+  held-one h f = record { from = omega arith; to = omega arith; held = λ g lo hi. let q : g ≡ s = omega arith in rw q f }
 
-pub counts-small : (w r : ℕ) → r ≡ one-if (isOwner w) → r ≤ 1
-counts-small w r e = let q = one-if-le (isOwner w) in omega arith
+  -- of n frames none is free
+  pub held-chunk : (n : ℕ) → s + n ≤ e → count n (λ j. freeIn b (s + j)) ≡ 0 → HeldTo b s e (s + n)
+  held-chunk n h z =
+      record {
+        from = omega arith;
+        to = h;
+        held = λ g lo hi. let q : s + (g - s) ≡ g = omega arith in rw q at (pass-none n (λ j. freeIn b (s + j)) z (g - s) (omega arith));
+      }
 
--- the pass
+  pub held-more : (g r : ℕ) → HeldTo b s e g → HeldTo b g e r → HeldTo b s e r
+  held-more g r x y = record {
+    from = omega (arith, x .from, y .from);
+    to = y .to;
+    held = λ k lo hi. by-dec (decLt k g) (λ lt. x .held k lo lt) (λ ge. y .held k (omega arith) hi);
+  }
+
+-- the count
 
 pub held-start : (b : List ℕ) → 0 ≡ count 0 (heldIn b)
 unfolding count
 held-start b = refl
 
--- past f's block: f is held or not, and no other frame of it is
-pub held-turn : (F : ℕ) (b : List ℕ) (f r n m : ℕ) → f < r → Checked F b f r → n ≡ count f (heldIn b) → m ≡ one-if (isOwner (getD b f 0)) → n + m ≡ count r (heldIn b)
-unfolding count heldIn
-held-turn F b f r n m on x e q =
-    let sum : suc f + (r - suc f) ≡ r = omega arith in
-    let a : count r (heldIn b) ≡ count (suc f) (heldIn b) + count (r - suc f) (λ i. heldIn b (suc f + i)) = rw sum at (count-split (suc f) (r - suc f) (heldIn b)) in
-    let z : count (r - suc f) (λ i. heldIn b (suc f + i)) ≡ 0 = none-pass (r - suc f) _ (λ i h. x .others (suc f + i) (omega arith) (omega arith)) in
-    omega (arith, a, z, e, q)
+count-on : (b : List ℕ) (f r : ℕ) → f ≤ r → count r (heldIn b) ≡ count f (heldIn b) + count (r - f) (λ i. heldIn b (f + i))
+count-on b f r h = let sum : f + (r - f) ≡ r = omega arith in rw sum at (count-split f (r - f) (heldIn b))
+
+held-word : (b : List ℕ) (g : ℕ) → freeIn b g ≡ false → heldIn b g ≡ true
+unfolding heldIn
+held-word b g f = by-test (isOwner (getD b g 0)) (λ t. t) (λ n. true-false (freeIn b g) (is-free b g (owner-false _ n)) f)
+
+pub count-held : (b : List ℕ) (s e r n : ℕ) → n ≡ count s (heldIn b) → HeldTo b s e r → n + (r - s) ≡ count r (heldIn b)
+count-held b s e r n q w =
+    let all : count (r - s) (λ i. heldIn b (s + i)) ≡ r - s = all-pass (r - s) _ (λ i h. held-word b (s + i) (w .held (s + i) (omega arith) (omega arith))) in
+    omega (arith, count-on b s r (w .from), all, q)
+
+pub count-block : (F : ℕ) (b : List ℕ) (f r n : ℕ) → f < r → Checked F b f r → n ≡ count f (heldIn b) → n ≡ count r (heldIn b)
+count-block F b f r n on x q =
+    let none : count (r - f) (λ i. heldIn b (f + i)) ≡ 0 = none-pass (r - f) _ (λ i h. x .free (f + i) (omega arith) (omega arith)) in
+    omega (arith, count-on b f r (omega arith), none, q)

@@ -18,7 +18,7 @@ use Rattle.words.specs.Writes.{Filled, sameIn}
 use Rattle.words.proofs.PowerLaws.{double}
 use Rattle.blocks.specs.FrameWords.{ownerOf, ownersOf, freeIn, heldIn, lawful, frameWord, frameWords}
 use Rattle.blocks.specs.Around.{startOf, around, freeOrder, orderWord}
-use Rattle.blocks.specs.Passes.{Edge, SettledTo, Checked}
+use Rattle.blocks.specs.Passes.{Edge, SettledTo, Checked, HeldTo}
 use Rattle.blocks.proofs.AroundLaws.{finer, coarser, in-block, block-in, start-same, around-at, at-around, around-same, smaller, around-ext, free-around, Maximal, order-here, maximal-order, maximal-same}
 use Rattle.blocks.proofs.WordLaws.{not-owner, owner-low, owner-high, owners-small, free-same, free-zero, is-free, is-held, start-word, other-word, free-frame, held-word, high-word, word-ext, words-ext, owner-back, lawful-yes, lawful-no}
 
@@ -64,23 +64,24 @@ module _ (F : ℕ) (free : ℕ → Bool) (k f : ℕ) (m : Maximal F free k f) (s
 
 -- one step
 
+-- the word of a held frame is its owner
+held-frame : (F : ℕ) (b : List ℕ) (f : ℕ) → f < F → (ownerOf (getD b f 0) ≡ 0 → ⊥) → getD b f 0 ≡ frameWord F (ownersOf b) f
+unfolding ownersOf
+held-frame F b f h n =
+    by-dec (decLe (getD b f 0) 4096) (λ le. sym (owner-low _ le)) (λ gt. absurd (n (owner-high _ (omega arith))))
+    ∙ sym (held-word F (ownersOf b) f h n)
+
 module _ (F : ℕ) (b : List ℕ) (f : ℕ) (h : f < F) (edge : Edge F (freeIn b) f) where
   pub held-step : (ownerOf (getD b f 0) ≡ 0 → ⊥) → SettledTo F b f (f + 1) b
-  unfolding ownersOf
   held-step n =
       record {
         on = omega arith;
         inside = omega arith;
-        words = λ g lo hi.
-            let gf : g ≡ f = omega arith in
-            rw gf (word ∙ sym (held-word F (ownersOf b) f h n));
+        words = λ g lo hi. let gf : g ≡ f = omega arith in rw gf (held-frame F b f h n);
         below = λ g lt. refl;
         above = λ g le. refl;
         edge = edge-held F (freeIn b) f (is-held b f n);
       }
-    where
-      word : getD b f 0 ≡ ownerOf (getD b f 0)
-      word = by-dec (decLe (getD b f 0) 4096) (λ le. sym (owner-low _ le)) (λ gt. absurd (n (owner-high _ (omega arith))))
 
   -- the free block at f
   pub record BlockHere (k : ℕ) : Type 0 where
@@ -172,6 +173,24 @@ one-turn F b₀ b f r b′ s len w =
         (λ lt. ap ownerOf (w .words g (omega arith) lt) ∙ owner-back F (ownersOf b) g h (owners-small b g))
         (λ ge. ap ownerOf (w .above g (omega arith))))
 
+-- a stretch of held frames, whose words are lawful as they are
+pub held-turn : (F : ℕ) (b : List ℕ) (s r : ℕ) → Sofar F b b s → HeldTo b s F r → Sofar F b b r
+held-turn F b s r x w =
+    record {
+      fits = w .to;
+      len = refl;
+      words = λ g lt. by-dec (decLt g s)
+          (λ low. x .words g low)
+          (λ high. held-frame F b g (omega (arith, w .to)) (λ z. true-false (freeIn b g) (is-free b g z) (w .held g (omega arith) lt)));
+      rest = λ g le. refl;
+      edge = by-dec (ℕ-discrete r s)
+          (λ e. rw e (x .edge))
+          (λ ne.
+          let last : (r - 1) + 1 ≡ r = omega (arith, w .from) in
+          rw last at (edge-held F (freeIn b) (r - 1) (w .held (r - 1) (omega (arith, w .from)) (omega (arith, w .from)))));
+      same = λ g h. refl;
+    }
+
 pub at-end : (F : ℕ) (b₀ b : List ℕ) (f : ℕ) (b′ : List ℕ) → length b₀ ≡ 4096 → F ≤ f → Sofar F b₀ b f → length b′ ≡ length b → Filled b F 4096 65535 b′ → b′ ≡ frameWords F (ownersOf b₀)
 unfolding frameWords
 at-end F b₀ b f b′ l0 ge s len w =
@@ -235,12 +254,9 @@ module _ (F : ℕ) (free : ℕ → Bool) (f : ℕ) (edge : Edge F free f) where
 -- one step of the check
 
 module _ (F : ℕ) (b : List ℕ) (f : ℕ) (h : f < F) (edge : Edge F (freeIn b) f) where
-  pub check-held : (ownerOf (getD b f 0) ≡ 0 → ⊥) → Checked F b f (f + 1)
-  check-held n = record { good = λ z. held-step F b f h edge n; others = λ g lo hi. absurd (omega arith); bad = λ z. absurd (omega arith) }
-
   module _ (k : ℕ) (t : freeIn b f ≡ true) (e : freeOrder F (freeIn b) f ≡ some k) where
     check-first : (getD b f 0 ≡ 16384 + k → ⊥) → Checked F b f 0
-    check-first n = let x = block-here F b f h edge k t e in record { good = λ z. absurd (z refl); others = λ g lo hi. absurd (omega arith); bad = λ z. (f, h, λ q. n (q ∙ x .first)) }
+    check-first n = let x = block-here F b f h edge k t e in record { good = λ z. absurd (z refl); free = λ g lo hi. absurd (omega arith); bad = λ z. (f, h, λ q. n (q ∙ x .first)) }
 
     module _ (z : ℕ) (size : z ≡ 2 ^ k) where
       pub check-others : allFrom (f + z - (f + 1)) (f + 1) (sameIn b 8192) ≡ false → Checked F b f 0
@@ -248,7 +264,7 @@ module _ (F : ℕ) (b : List ℕ) (f : ℕ) (h : f < F) (edge : Edge F (freeIn b
       check-others n =
           let x = block-here F b f h edge k t e in
           let w = level-fits F b f h edge k t e in
-          record { good = λ q. absurd (q refl); others = λ g lo hi. absurd (omega arith); bad = λ q. search-wrong x (w .0) }
+          record { good = λ q. absurd (q refl); free = λ g lo hi. absurd (omega arith); bad = λ q. search-wrong x (w .0) }
         where
           search-wrong : BlockHere F b f h edge k → f + 2 ^ k ≤ F → (g : ℕ) × (g < F) × (getD b g 0 ≡ frameWord F (ownersOf b) g → ⊥)
           search-wrong x fits =
@@ -275,7 +291,9 @@ module _ (F : ℕ) (b : List ℕ) (f : ℕ) (h : f < F) (edge : Edge F (freeIn b
               above = λ g le. refl;
               edge = rw size (edge-block F (freeIn b) k f (x .maximal) (x .starts));
             };
-            others = λ g lo hi. other-frame g (eqb-true _ _ (allFrom-at _ _ (sameIn b 8192) others g (omega arith) (omega arith)));
+            free = λ g lo hi. by-dec (ℕ-discrete g f)
+                (λ gf. rw gf (not-owner (getD b f 0) (omega arith)))
+                (λ ne. other-frame g (eqb-true _ _ (allFrom-at _ _ (sameIn b 8192) others g (omega arith) (omega arith))));
             bad = λ q. absurd (omega arith);
           }
         where

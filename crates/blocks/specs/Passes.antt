@@ -31,11 +31,17 @@ pub record SettledTo (F : ℕ) (b : List ℕ) (f r : ℕ) (b′ : List ℕ) : Ty
   pub above : (g : ℕ) → r ≤ g → getD b′ g 0 ≡ getD b g 0
   pub edge : Edge F (freeIn b) r
 
--- the frame after f's block where its words are lawful, or 0 where a word below F is not; in that block no frame but f can be held
+-- the frame after the free block at f where its words are lawful, or 0 where a word below F is not
 pub record Checked (F : ℕ) (b : List ℕ) (f r : ℕ) : Type 0 where
   pub good : (r ≡ 0 → ⊥) → SettledTo F b f r b
-  pub others : (g : ℕ) → f < g → g < r → heldIn b g ≡ false
+  pub free : (g : ℕ) → f ≤ g → g < r → heldIn b g ≡ false
   pub bad : r ≡ 0 → (g : ℕ) × (g < F) × (getD b g 0 ≡ frameWord F (ownersOf b) g → ⊥)
+
+-- the frames from s up to r, r left out and at most e, are held
+pub record HeldTo (b : List ℕ) (s e r : ℕ) : Type 0 where
+  pub from : s ≤ r
+  pub to : r ≤ e
+  pub held : (g : ℕ) → s ≤ g → g < r → freeIn b g ≡ false
 
 -- Choosing: the orders in the sequence in which they are tried, so that the first that has a free block decides
 

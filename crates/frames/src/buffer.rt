@@ -1,10 +1,14 @@
 // Reading and writing runs of words of a lent buffer.
 ghost use mathlib.Core.Path.{_≡_};
-ghost use Prim.Native.Nat.{ℕ, _+_, _-_, _^_, _≤_, _<_};
+ghost use mathlib.Core.Bool.{true};
+ghost use Prim.Native.Nat.{_+_, _-_, _^_, _≤_, _<_};
+ghost use lib.Dec.{eqb};
 ghost use lib.ListN.{length};
+ghost use Rattle.words.specs.Counts.{count, one-if};
 ghost use Rattle.words.specs.Searches.{allFrom};
 ghost use Rattle.words.specs.Writes.{Filled, CountedUp};
 ghost use Rattle.blocks.specs.FrameWords.{ownerOf, freeIn};
+ghost use Rattle.blocks.specs.Passes.{HeldTo};
 
 // The owner that a frame word names, 0 for a free frame.
 pub fn owner_of(w: u32) -> u32
@@ -14,6 +18,31 @@ pub fn owner_of(w: u32) -> u32
         return w;
     }
     0
+}
+
+pub fn one_if_free(w: u32) -> u32
+    ensures { λ r. ⌜ r ≡ one-if (eqb (ownerOf w) 0) ⌝ }
+    ensures { λ r. ⌜ r ≤ 1 ⌝ }
+{
+    let o = owner_of(w);
+    if o == 0 {
+        return 1;
+    }
+    0
+}
+
+// How many of the sixteen frames from `at` on are free, counted without a branch, so that the compiler reads several words at a time.
+fn free_in_chunk(frames: &[u32], at: usize) -> u32
+    requires { ⌜ at + 16 ≤ length (now frames) ⌝ }
+    ensures { λ r. ⌜ r ≡ count 16 (λ j. freeIn (now (frames .entry)) (at + j)) ⌝ }
+{
+    let mut n: u32 = 0;
+    let mut j: usize = 0;
+    while j < 16 {
+        n += one_if_free(frames[at + j]);
+        j += 1;
+    }
+    n
 }
 
 // How many frames a block of order k has.
@@ -31,14 +60,55 @@ pub fn all_free(frames: &[u32], from: usize, end: usize) -> bool
     ensures { λ r. ⌜ r ≡ allFrom (end - from) from (freeIn (now (frames .entry))) ⌝ }
 {
     let mut g = from;
+    while 16 <= end - g {
+        if free_in_chunk(frames, g) != 16 {
+            return false;
+        }
+        g += 16;
+    }
     while g < end {
-        let w = owner_of(frames[g]);
-        if w != 0 {
+        if owner_of(frames[g]) != 0 {
             return false;
         }
         g += 1;
     }
     true
+}
+
+// A place up to which the frames from `from` on are held, chunk after chunk. A chunk starts at a multiple of sixteen, so that short stretches are not read sixteen at a time.
+fn held_chunks(frames: &[u32], from: usize, end: usize) -> usize
+    requires { ⌜ end ≤ length (now frames) ⌝ }
+    requires { ⌜ from ≤ end ⌝ }
+    ensures { λ r. ⌜ HeldTo (now (frames .entry)) from end r ⌝ }
+{
+    let mut g = from;
+    while g % 16 == 0 {
+        if end - g < 16 {
+            return g;
+        }
+        if free_in_chunk(frames, g) != 0 {
+            return g;
+        }
+        g += 16;
+    }
+    g
+}
+
+// The first free frame from `from` on, and before `end`, or else `end`.
+pub fn held_to(frames: &[u32], from: usize, end: usize) -> usize
+    requires { ⌜ end ≤ length (now frames) ⌝ }
+    requires { ⌜ from ≤ end ⌝ }
+    ensures { λ r. ⌜ HeldTo (now (frames .entry)) from end r ⌝ }
+    ensures { λ r. ⌜ ((r ≡ end → ⊥) → freeIn (now (frames .entry)) r ≡ true) ⌝ }
+{
+    let mut g = from;
+    while g < end {
+        if owner_of(frames[g]) == 0 {
+            return g;
+        }
+        g = held_chunks(frames, g + 1, end);
+    }
+    g
 }
 
 // Sets the words from `from` up to `end` to v.

@@ -1,12 +1,12 @@
-// The check whether a buffer is lawful: the pass that settles, read as a comparison.
+// The check whether a buffer is lawful: stretches of held frames, and between them free blocks whose words are compared with those that settling writes.
 ghost use mathlib.Core.Path.{_≡_};
 ghost use mathlib.Core.Bool.{true};
 ghost use Prim.Native.Nat.{_≤_, _<_};
 ghost use lib.ListN.{length};
-ghost use Rattle.words.specs.Counts.{count, one-if};
-ghost use Rattle.blocks.specs.FrameWords.{isOwner, freeIn, heldIn, lawful};
+ghost use Rattle.words.specs.Counts.{count};
+ghost use Rattle.blocks.specs.FrameWords.{freeIn, heldIn, lawful};
 ghost use Rattle.blocks.specs.Passes.{Edge, Checked};
-use crate::buffer::owner_of;
+use crate::buffer::held_to;
 use crate::buffer::size_of;
 use crate::settling::can_start;
 use crate::settling::grows;
@@ -57,31 +57,6 @@ fn block_at(frames: &[u32], pool: u32, f: Frame) -> Frame
     Frame(end)
 }
 
-// The frame after the held frame or the free block at f, or frame 0 where its words are not lawful.
-fn lawful_at(frames: &[u32], pool: u32, f: Frame) -> Frame
-    requires { ⌜ length (now frames) ≡ 4096 ⌝ }
-    requires { ⌜ pool ≤ 4096 ⌝ }
-    requires { ⌜ f .0 < pool ⌝ }
-    requires { ⌜ Edge pool (freeIn (now frames)) (f .0) ⌝ }
-    ensures { λ r. ⌜ Checked pool (now (frames .entry)) (f .0) (r .0) ⌝ }
-{
-    let o = owner_of(frames[f.0 as usize]);
-    if o != 0 {
-        return Frame(f.0 + 1);
-    }
-    block_at(frames, pool, f)
-}
-
-fn one_if_held(w: u32) -> u32
-    ensures { λ r. ⌜ r ≡ one-if (isOwner w) ⌝ }
-{
-    let o = owner_of(w);
-    if o == 0 {
-        return 0;
-    }
-    1
-}
-
 // Whether the buffer is lawful for a pool of `pool` frames, and how many frames are held where it is.
 pub fn judge(frames: &[u32], pool: u32) -> Judged
     ensures { λ r. ⌜ r .lawful ≡ lawful pool (now (frames .entry)) ⌝ }
@@ -100,18 +75,23 @@ pub fn judge(frames: &[u32], pool: u32) -> Judged
     if 4096 < pool {
         return unlawful;
     }
-    let mut held: u32 = 0;
-    let mut f = Frame(0);
-    while f.0 < pool {
-        let next = lawful_at(frames, pool, f);
+    let end = pool as usize;
+    let mut f = held_to(frames, 0, end);
+    let mut held = f;
+    while f < end {
+        let next = block_at(frames, pool, Frame(f as u32));
         if next.0 == 0 {
             return unlawful;
         }
-        held += one_if_held(frames[f.0 as usize]);
-        f = next;
+        let after = next.0 as usize;
+        f = held_to(frames, after, end);
+        held += f - after;
     }
-    let lawful = all_same(frames, pool as usize, 4096, 65535);
-    Judged { lawful, held }
+    let lawful = all_same(frames, end, 4096, 65535);
+    Judged {
+        lawful,
+        held: held as u32,
+    }
 }
 
 // Whether the buffer is lawful for a pool of `pool` frames.

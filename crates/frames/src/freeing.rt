@@ -1,27 +1,17 @@
 // Counting free frames, finding owners, and freeing.
 ghost use mathlib.Core.Path.{_≡_};
-ghost use Prim.Native.Nat.{ℕ, _+_, _≤_, _<_};
-ghost use lib.ListN.{length, getD};
-ghost use lib.Dec.{eqb};
-ghost use Rattle.words.specs.Counts.{count, one-if};
+ghost use Prim.Native.Nat.{_+_, _≤_, _<_};
+ghost use lib.ListN.{length};
+ghost use Rattle.words.specs.Counts.{count};
 ghost use Rattle.words.specs.Searches.{allFrom, anyFrom};
-ghost use Rattle.blocks.specs.FrameWords.{ownerOf, ownersOf, freeIn, frameWords};
+ghost use Rattle.blocks.specs.FrameWords.{ownersOf, freeIn, frameWords};
 ghost use Rattle.blocks.specs.Owners.{inSpan, cleared, freed, holds};
 ghost use Rattle.blocks.specs.Passes.{ClearedTo, MarkedOne, MarkedTo};
 use crate::buffer::fill;
+use crate::buffer::one_if_free;
 use crate::buffer::owner_of;
 use crate::settling::settle;
 use words::scans::all_same;
-
-fn one_if_free(w: u32) -> u32
-    ensures { λ r. ⌜ r ≡ one-if (eqb (ownerOf w) 0) ⌝ }
-{
-    let o = owner_of(w);
-    if o == 0 {
-        return 1;
-    }
-    0
-}
 
 // How many frames of the pool are free, counted singly.
 pub fn count_free(frames: &[u32], pool: u32) -> u32

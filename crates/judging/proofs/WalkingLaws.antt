@@ -12,7 +12,7 @@ use Rattle.words.specs.Searches.{allFrom, every}
 use Rattle.words.specs.Tables.{part}
 use Rattle.words.specs.Writes.{countsIn, PassTo}
 use Rattle.words.proofs.Cases.{true-false, by-test, and-true, true-and}
-use Rattle.words.proofs.SearchLaws.{all-step, all-along, every-at, at-every, every-all}
+use Rattle.words.proofs.SearchLaws.{at-allFrom, all-step, all-steps, every-at, at-every, every-all}
 use Rattle.words.proofs.CountLaws.{one-if-le, count-ext, count-split, none-pass, all-pass}
 use Rattle.runs.specs.PageWords.{mapped, frameIn}
 use Rattle.runs.specs.Walk.{lawfulRanges}
@@ -127,7 +127,7 @@ module _ (opened : Bool) (fs : List ℕ) (F a : ℕ) (ws : List ℕ) where
       → Named fs F (frameIn w) (a + (i + 1)) m → j ≡ i + 1 + p → all ≡ allFrom (1024 - j) j (λ q. pageFits opened fs F (a + q) (getD ws q 0))
   fits-turn all i w p m j e word h t along named jj =
       let room = along-room ws (i + 1) w p m (omega arith) along in
-      rw jj (e ∙ all-step _ i 1024 h (rw word at t) ∙ all-along _ (i + 1) 1024 p (room .0) (fits-along (i + 1) w (a + i) p m t along named))
+      rw jj (e ∙ all-step _ i 1024 h (rw word at t) ∙ all-steps _ p (i + 1) 1024 (omega (arith, room .0)) (at-allFrom p (i + 1) _ (fits-along (i + 1) w (a + i) p m t along named)))
 
 -- mapped pages, counted
 

@@ -26,6 +26,11 @@ count-ext zero p q h = refl
 count-ext (suc n) p q h =
     ap₂ _+_ (count-ext n p q (λ i hi. h i (omega arith))) (ap one-if (h n (omega arith)))
 
+-- one number more
+pub count-step : (p : ℕ → Bool) (j m r : ℕ) → m ≡ count j p → r ≡ one-if (p j) → m + r ≡ count (j + 1) p
+unfolding count
+count-step p j m r e q = let s : j + 1 ≡ suc j = omega arith in rw (s, e, q)
+
 -- where each that passes p passes q too
 pub count-mono : (n : ℕ) (p q : ℕ → Bool) → ((i : ℕ) → i < n → p i ≡ true → q i ≡ true) → count n p ≤ count n q
 unfolding count one-if
@@ -98,6 +103,12 @@ pub none-pass : (n : ℕ) (p : ℕ → Bool) → ((i : ℕ) → i < n → p i �
 unfolding count one-if
 none-pass zero p h = refl
 none-pass (suc n) p h = rw (h n (omega arith), none-pass n p (λ i hi. h i (omega arith)))
+
+pub pass-none : (n : ℕ) (p : ℕ → Bool) → count n p ≡ 0 → (i : ℕ) → i < n → p i ≡ false
+pass-none n p e i h =
+    by-test (p i)
+    (λ t. true-false false (count-all n (λ j. false) p (λ j hj f. true-false false f refl) (none-pass n (λ j. false) (λ j hj. refl) ∙ sym e) i h t) refl)
+    (λ f. f)
 
 pub all-pass : (n : ℕ) (p : ℕ → Bool) → ((i : ℕ) → i < n → p i ≡ true) → count n p ≡ n
 unfolding count one-if

@@ -2,12 +2,12 @@
 use mathlib.Core.Path.{_≡_, refl, sym, _∙_}
 use mathlib.Core.Bool.{Bool, true, false}
 use mathlib.Core.List.{List}
-use Prim.Native.Nat.{ℕ, suc, _+_, _-_, _<_, _≤_}
+use Prim.Native.Nat.{ℕ, _+_, _-_, _<_, _≤_}
 use native.Mathlib.Decide.{decLt, ℕ-discrete}
 use native.Mathlib.Omega.{arith}
 use lib.Dec.{eqb}
 use lib.ListN.{getD}
-use borrow.Author.Tests.{eqb-true, eqb-false, eq-eqb, ne-eqb}
+use borrow.Author.Tests.{eq-eqb, ne-eqb}
 use Rattle.words.specs.Counts.{count, one-if}
 use Rattle.words.specs.Searches.{allFrom}
 use Rattle.words.specs.Writes.{sameIn, countsIn, PassTo}
@@ -36,10 +36,6 @@ all-by-count n at p =
     (rw k at (count-all n (λ j. p (at + j)) (λ j. true) (λ j h t. refl) (e ∙ sym (all-pass n (λ j. true) (λ j h. refl))) (x .0 - at) less refl))
     (x .3))
     ∙ sym f)
-
-pub count-next : (p : ℕ → Bool) (j m r : ℕ) → m ≡ count j p → r ≡ one-if (p j) → m + r ≡ count (j + 1) p
-unfolding count
-count-next p j m r e q = let s : j + 1 ≡ suc j = omega arith in rw (s, e, q)
 
 module _ (p : ℕ → Bool) (s e : ℕ) where
   pub pass-none : s ≤ e → PassTo p s e s

@@ -33,6 +33,10 @@ some-fails (suc n) i p e =
     (λ t. let r = some-fails n (suc i) p (rw (t, allFrom) at e) in let lo = r .1 in let hi = r .2 in (r .0, omega arith, omega arith, r .3))
     (λ t. (i, omega arith, omega arith, t))
 
+-- one fails, so not all pass
+pub all-fails : (n i : ℕ) (p : ℕ → Bool) (g : ℕ) → i ≤ g → g < i + n → p g ≡ false → allFrom n i p ≡ false
+all-fails n i p g lo hi f = by-test (allFrom n i p) (λ t. true-false (p g) (allFrom-at n i p t g lo hi) f) (λ t. t)
+
 -- all of a range, turn by turn
 
 module _ (p : ℕ → Bool) (g e : ℕ) (h : g < e) where
@@ -49,12 +53,16 @@ module _ (p : ℕ → Bool) (g e : ℕ) (h : g < e) where
       let s : e - g ≡ suc (e - (g + 1)) = omega arith in
       rw (s, t, allFrom)
 
--- over k that pass
-pub all-along : (p : ℕ → Bool) (g e k : ℕ) → g + k ≤ e → ((q : ℕ) → g ≤ q → q < g + k → p q ≡ true) → allFrom (e - g) g p ≡ allFrom (e - (g + k)) (g + k) p
-all-along p g e zero h t = rw (add-zero g) refl
-all-along p g e (suc k) h t =
-    let s : g + suc k ≡ g + k + 1 = omega arith in
-    rw s (all-along p g e k (omega arith) (λ q lo hi. t q lo (omega arith)) ∙ all-step p (g + k) e (omega arith) (t (g + k) (omega arith) (omega arith)))
+-- n at a time
+module _ (p : ℕ → Bool) (n g e : ℕ) (h : n ≤ e - g) where
+  pub all-steps : allFrom n g p ≡ true → allFrom (e - g) g p ≡ allFrom (e - (g + n)) (g + n) p
+  all-steps t =
+      by-test (allFrom (e - (g + n)) (g + n) p)
+      (λ rest. at-allFrom (e - g) g p (λ k lo hi. by-dec (decLt k (g + n)) (λ lt. allFrom-at n g p t k lo lt) (λ ge. allFrom-at (e - (g + n)) (g + n) p rest k (omega arith) (omega arith))) ∙ sym rest)
+      (λ rest. let x = some-fails (e - (g + n)) (g + n) p rest in let lo = x .1 in let hi = x .2 in all-fails (e - g) g p (x .0) (omega arith) (omega arith) (x .3) ∙ sym rest)
+
+  pub all-stops : allFrom n g p ≡ false → false ≡ allFrom (e - g) g p
+  all-stops f = let x = some-fails n g p f in let hi = x .2 in sym (all-fails (e - g) g p (x .0) (x .1) (omega arith) (x .3))
 
 pub all-end : (p : ℕ → Bool) (g e : ℕ) → e ≤ g → true ≡ allFrom (e - g) g p
 unfolding allFrom

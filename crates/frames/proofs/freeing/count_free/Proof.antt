@@ -5,9 +5,8 @@ use mathlib.Core.Path.{_≡_, refl}
 use Prim.Native.Nat.{_≤_, _-_}
 use native.Mathlib.Omega.{arith}
 use Rattle.words.specs.Counts.{count}
-use Rattle.words.proofs.CountLaws.{count-le}
-use Rattle.blocks.specs.FrameWords.{freeIn}
-use Rattle.blocks.proofs.FreeLaws.{count-turn, one-small}
+use Rattle.words.proofs.CountLaws.{count-le, count-step}
+use Rattle.blocks.specs.FrameWords.{ownersOf, freeOf, freeIn}
 
 abbrev Inv-loop : tie.InvT-loop
 Inv-loop frames pool end n₀ f₀ n f = (end ≡ pool) × ((f ≤ end) × (n ≡ count f (freeIn frames)))
@@ -34,7 +33,7 @@ one-if-free-requires c κs = search needs
 
 -- src/freeing.rt:34:9
 add-n : tie.Need-add-n Inv-loop μ-loop
-add-n c = omega (arith, c .before .before .before .loop .inv .1 .1, count-le (c .before .before .before .loop .f) (freeIn (c .before .before .before .before .before .args .frames .now)), one-small _ _ (c .one-if-free .ensures))
+add-n c = omega (arith, c .before .before .before .loop .inv .1 .1, count-le (c .before .before .before .loop .f) (freeIn (c .before .before .before .before .before .args .frames .now)), c .one-if-free .ensures .1)
 
 -- src/freeing.rt:35:9
 add-f : tie.Need-add-f Inv-loop μ-loop
@@ -46,7 +45,8 @@ loop-less c = search needs
 
 -- src/freeing.rt:33:5
 loop-again : tie.Need-loop-again Inv-loop μ-loop
-loop-again c = (c .before .before .before .loop .inv .0, (omega arith, count-turn _ _ _ _ (c .before .before .before .loop .inv .1 .1) (c .one-if-free .ensures)))
+unfolding freeIn freeOf ownersOf
+loop-again c = (c .before .before .before .loop .inv .0, (omega arith, count-step _ _ _ _ (c .before .before .before .loop .inv .1 .1) (c .one-if-free .ensures .0)))
 
 -- src/freeing.rt:25:1
 returns : tie.Need-returns Inv-loop μ-loop
