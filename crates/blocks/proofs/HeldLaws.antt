@@ -1,14 +1,17 @@
 -- Held frames, passed over a stretch at a time and counted.
 use mathlib.Core.Path.{_≡_, refl}
-use mathlib.Core.Bool.{true, false}
+use mathlib.Core.Bool.{true, false, not}
 use mathlib.Core.List.{List}
 use Prim.Native.Nat.{ℕ, _+_, _-_, _<_, _≤_}
 use native.Mathlib.Decide.{decLt}
 use native.Mathlib.Omega.{arith}
 use lib.ListN.{getD}
+use borrow.Author.Tests.{not-true}
+use Rattle.words.specs.Searches.{allFrom}
+use Rattle.words.proofs.SearchLaws.{allFrom-at}
 use Rattle.words.specs.Counts.{count}
 use Rattle.words.proofs.Cases.{by-test, by-dec, true-false}
-use Rattle.words.proofs.CountLaws.{count-split, none-pass, all-pass, pass-none}
+use Rattle.words.proofs.CountLaws.{count-split, none-pass, all-pass}
 use Rattle.blocks.specs.FrameWords.{isOwner, freeIn, heldIn}
 use Rattle.blocks.specs.Passes.{Checked, HeldTo}
 use Rattle.blocks.proofs.WordLaws.{owner-false, is-free}
@@ -22,14 +25,12 @@ module _ (b : List ℕ) (s e : ℕ) where
   pub held-one : s < e → freeIn b s ≡ false → HeldTo b s e (s + 1)
   held-one h f = record { from = omega arith; to = omega arith; held = λ g lo hi. let q : g ≡ s = omega arith in rw q f }
 
-  -- of n frames none is free
-  pub held-chunk : (n : ℕ) → s + n ≤ e → count n (λ j. freeIn b (s + j)) ≡ 0 → HeldTo b s e (s + n)
-  held-chunk n h z =
-      record {
-        from = omega arith;
-        to = h;
-        held = λ g lo hi. let q : s + (g - s) ≡ g = omega arith in rw q at (pass-none n (λ j. freeIn b (s + j)) z (g - s) (omega arith));
-      }
+  pub held-chunk : (n : ℕ) → s + n ≤ e → allFrom n s (λ g. not (freeIn b g)) ≡ true → HeldTo b s e (s + n)
+  held-chunk n h t = record { from = omega arith; to = h; held = λ g lo hi. not-true _ (allFrom-at n s (λ k. not (freeIn b k)) t g lo hi) }
+
+  -- the frames up to a nearer end
+  pub held-near : (d r : ℕ) → d ≤ e → HeldTo b s d r → HeldTo b s e r
+  held-near d r h x = record { from = x .from; to = omega (arith, x .to); held = x .held }
 
   pub held-more : (g r : ℕ) → HeldTo b s e g → HeldTo b g e r → HeldTo b s e r
   held-more g r x y = record {

@@ -1,10 +1,10 @@
 // Reading and writing runs of words of a lent buffer.
 ghost use mathlib.Core.Path.{_≡_};
-ghost use mathlib.Core.Bool.{true};
+ghost use mathlib.Core.Bool.{true, not};
 ghost use Prim.Native.Nat.{_+_, _-_, _^_, _≤_, _<_};
 ghost use lib.Dec.{eqb};
 ghost use lib.ListN.{length};
-ghost use Rattle.words.specs.Counts.{count, one-if};
+ghost use Rattle.words.specs.Counts.{one-if};
 ghost use Rattle.words.specs.Searches.{allFrom};
 ghost use Rattle.words.specs.Writes.{Filled, CountedUp};
 ghost use Rattle.blocks.specs.FrameWords.{ownerOf, freeIn};
@@ -31,10 +31,17 @@ pub fn one_if_free(w: u32) -> u32
     0
 }
 
-// How many of the sixteen frames from `at` on are free, counted without a branch, so that the compiler reads several words at a time.
-fn free_in_chunk(frames: &[u32], at: usize) -> u32
+fn one_if_held(w: u32) -> u32
+    ensures { λ r. ⌜ r ≡ one-if (not (eqb (ownerOf w) 0)) ⌝ }
+    ensures { λ r. ⌜ r ≤ 1 ⌝ }
+{
+    1 - one_if_free(w)
+}
+
+// Whether the sixteen frames from `at` on are free. They are counted without a branch, so that the compiler reads several words at a time.
+fn chunk_free(frames: &[u32], at: usize) -> bool
     requires { ⌜ at + 16 ≤ length (now frames) ⌝ }
-    ensures { λ r. ⌜ r ≡ count 16 (λ j. freeIn (now (frames .entry)) (at + j)) ⌝ }
+    ensures { λ r. ⌜ r ≡ allFrom 16 at (freeIn (now (frames .entry))) ⌝ }
 {
     let mut n: u32 = 0;
     let mut j: usize = 0;
@@ -42,7 +49,21 @@ fn free_in_chunk(frames: &[u32], at: usize) -> u32
         n += one_if_free(frames[at + j]);
         j += 1;
     }
-    n
+    n == 16
+}
+
+// Whether the sixteen frames from `at` on are held.
+fn chunk_held(frames: &[u32], at: usize) -> bool
+    requires { ⌜ at + 16 ≤ length (now frames) ⌝ }
+    ensures { λ r. ⌜ r ≡ allFrom 16 at (λ g. not (freeIn (now (frames .entry)) g)) ⌝ }
+{
+    let mut n: u32 = 0;
+    let mut j: usize = 0;
+    while j < 16 {
+        n += one_if_held(frames[at + j]);
+        j += 1;
+    }
+    n == 16
 }
 
 // How many frames a block of order k has.
@@ -61,7 +82,7 @@ pub fn all_free(frames: &[u32], from: usize, end: usize) -> bool
 {
     let mut g = from;
     while 16 <= end - g {
-        if free_in_chunk(frames, g) != 16 {
+        if !chunk_free(frames, g) {
             return false;
         }
         g += 16;
@@ -75,18 +96,15 @@ pub fn all_free(frames: &[u32], from: usize, end: usize) -> bool
     true
 }
 
-// A place up to which the frames from `from` on are held, chunk after chunk. A chunk starts at a multiple of sixteen, so that short stretches are not read sixteen at a time.
+// A place up to which the frames from `from` on are held, chunk after chunk.
 fn held_chunks(frames: &[u32], from: usize, end: usize) -> usize
     requires { ⌜ end ≤ length (now frames) ⌝ }
     requires { ⌜ from ≤ end ⌝ }
     ensures { λ r. ⌜ HeldTo (now (frames .entry)) from end r ⌝ }
 {
     let mut g = from;
-    while g % 16 == 0 {
-        if end - g < 16 {
-            return g;
-        }
-        if free_in_chunk(frames, g) != 0 {
+    while 16 <= end - g {
+        if !chunk_held(frames, g) {
             return g;
         }
         g += 16;
@@ -94,8 +112,8 @@ fn held_chunks(frames: &[u32], from: usize, end: usize) -> usize
     g
 }
 
-// The first free frame from `from` on, and before `end`, or else `end`.
-pub fn held_to(frames: &[u32], from: usize, end: usize) -> usize
+// The first free frame from `from` on, and before `end`, or else `end`, frame after frame.
+fn held_words(frames: &[u32], from: usize, end: usize) -> usize
     requires { ⌜ end ≤ length (now frames) ⌝ }
     requires { ⌜ from ≤ end ⌝ }
     ensures { λ r. ⌜ HeldTo (now (frames .entry)) from end r ⌝ }
@@ -106,9 +124,27 @@ pub fn held_to(frames: &[u32], from: usize, end: usize) -> usize
         if owner_of(frames[g]) == 0 {
             return g;
         }
-        g = held_chunks(frames, g + 1, end);
+        g += 1;
     }
     g
+}
+
+// The first free frame from `from` on, and before `end`, or else `end`. Four frames are read singly first, since short stretches are not worth a chunk.
+pub fn held_to(frames: &[u32], from: usize, end: usize) -> usize
+    requires { ⌜ end ≤ length (now frames) ⌝ }
+    requires { ⌜ from ≤ end ⌝ }
+    ensures { λ r. ⌜ HeldTo (now (frames .entry)) from end r ⌝ }
+    ensures { λ r. ⌜ ((r ≡ end → ⊥) → freeIn (now (frames .entry)) r ≡ true) ⌝ }
+{
+    if end - from < 4 {
+        return held_words(frames, from, end);
+    }
+    let near = held_words(frames, from, from + 4);
+    if near < from + 4 {
+        return near;
+    }
+    let far = held_chunks(frames, near, end);
+    held_words(frames, far, end)
 }
 
 // Sets the words from `from` up to `end` to v.

@@ -1,76 +1,64 @@
-use mathlib.Core.Path.{sym, _∙_}
-use Prim.Native.Nat.{_-_}
 use native.Mathlib.Omega.{arith}
-use Rattle.blocks.specs.Passes.{HeldTo}
-use Rattle.blocks.proofs.WordLaws.{is-free, is-held}
-use Rattle.blocks.proofs.HeldLaws.{held-none, held-one, held-more}
+use Rattle.blocks.proofs.HeldLaws.{held-near, held-more}
 use borrow.Author.Needs.{needs}
 use Rattle.frames.proofs.buffer.held_to.Statement.{statement}
 use Rattle.frames.proofs.buffer.held_to.Tie as tie
 use Rattle.frames.proofs.buffer.held_to.Reads as reads
 use Rattle.frames.proofs.buffer.held_to.Lts as lts
 use Rattle.frames.proofs.buffer.held_chunks.Reads as held-chunks-reads
-use Rattle.frames.proofs.buffer.owner_of.Reads as owner-of-reads
+use Rattle.frames.proofs.buffer.held_words.Reads as held-words-reads
 
-abbrev Inv-loop : tie.InvT-loop
-Inv-loop frames from end g₀ g = HeldTo frames from end g
+-- src/buffer.rt:139:8
+sub-if1 : tie.Need-sub-if1
+sub-if1 c = search needs
 
-abbrev μ-loop : tie.MeasureT-loop
-μ-loop frames from end g₀ g = end - g
+-- src/buffer.rt:140:9
+held-words-requires : tie.Need-held-words-requires
+held-words-requires c κs = search needs
 
--- src/buffer.rt:105:5
-loop-holds : tie.Need-loop-holds Inv-loop μ-loop
-loop-holds c = held-none _ _ _ (omega arith)
+-- src/buffer.rt:140:9
+returns : tie.Need-returns
+returns c = c .held-words .ensures
 
--- src/buffer.rt:106:21
-mul-owner-of : tie.Need-mul-owner-of Inv-loop μ-loop
-mul-owner-of c = search needs
+-- src/buffer.rt:142:41
+add-held-words : tie.Need-add-held-words
+add-held-words c = search needs
 
--- src/buffer.rt:106:21
-shared-slice-read-owner-of : tie.Need-shared-slice-read-owner-of Inv-loop μ-loop
-shared-slice-read-owner-of c = search needs
+-- src/buffer.rt:142:9
+held-words-requires-2 : tie.Need-held-words-requires-2
+held-words-requires-2 c κs = search needs
 
--- src/buffer.rt:106:12
-owner-of-requires : tie.Need-owner-of-requires Inv-loop μ-loop
-owner-of-requires c κs = search needs
+-- src/buffer.rt:143:15
+add-if2 : tie.Need-add-if2
+add-if2 c = search needs
 
--- src/buffer.rt:107:13
-returns : tie.Need-returns Inv-loop μ-loop
-returns c = (c .before .before .before .before .loop .inv, λ ne. is-free _ _ (sym (c .before .owner-of .ensures) ∙ c .if1 .taken))
+-- src/buffer.rt:144:9
+returns-2 : tie.Need-returns-2
+returns-2 c = (held-near _ _ _ _ _ (omega arith) (c .before .held-words2 .ensures .0), λ ne. c .before .held-words2 .ensures .1 (λ e. omega arith))
 
--- src/buffer.rt:109:33
-add-held-chunks : tie.Need-add-held-chunks Inv-loop μ-loop
-add-held-chunks c = search needs
-
--- src/buffer.rt:109:9
-held-chunks-requires : tie.Need-held-chunks-requires Inv-loop μ-loop
+-- src/buffer.rt:146:9
+held-chunks-requires : tie.Need-held-chunks-requires
 held-chunks-requires c κs = search needs
 
--- src/buffer.rt:105:5
-loop-less : tie.Need-loop-less Inv-loop μ-loop
-loop-less c = omega (arith, c .held-chunks .ensures .from, c .held-chunks .ensures .to)
+-- src/buffer.rt:147:5
+held-words-requires-3 : tie.Need-held-words-requires-3
+held-words-requires-3 c κs = search needs
 
--- src/buffer.rt:105:5
-loop-again : tie.Need-loop-again Inv-loop μ-loop
-loop-again c = held-more _ _ _ _ _ (held-more _ _ _ _ _ (c .before .before .before .before .before .loop .inv) (held-one _ _ _ (omega arith) (is-held _ _ (λ e. c .before .if1 .left (c .before .before .owner-of .ensures ∙ e))))) (c .held-chunks .ensures)
-
--- src/buffer.rt:98:1
-returns-2 : tie.Need-returns-2 Inv-loop μ-loop
-returns-2 c = (c .before .loop .inv, λ ne. absurd (ne (omega (arith, c .before .loop .inv .to))))
+-- src/buffer.rt:133:1
+returns-3 : tie.Need-returns-3
+returns-3 c = (held-more _ _ _ _ _ (held-near _ _ _ _ _ (omega arith) (c .before .before .before .held-words2 .ensures .0)) (held-more _ _ _ _ _ (c .before .held-chunks .ensures) (c .held-words3 .ensures .0)), c .held-words3 .ensures .1)
 
 pub held-to-spec : {M : Type 1} → statement M
 held-to-spec =
     tie.close
     (tie.spec
-    Inv-loop
-    μ-loop
-    loop-holds
-    mul-owner-of
-    shared-slice-read-owner-of
-    owner-of-requires
+    sub-if1
+    held-words-requires
     returns
-    add-held-chunks
+    add-held-words
+    held-words-requires-2
+    add-if2
+    returns-2
     held-chunks-requires
-    loop-less
-    loop-again
-    returns-2)
+    held-words-requires-3
+    returns-3)
