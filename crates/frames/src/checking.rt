@@ -2,7 +2,7 @@
 ghost use mathlib.Core.Path.{_≡_};
 ghost use mathlib.Core.Bool.{true};
 ghost use Prim.Native.Nat.{_≤_, _<_};
-ghost use lib.ListN.{length};
+ghost use lib.ListN.{length, getD};
 ghost use Rattle.words.specs.Counts.{count};
 ghost use Rattle.blocks.specs.FrameWords.{freeIn, heldIn, lawful};
 ghost use Rattle.blocks.specs.Passes.{Edge, Checked};
@@ -19,6 +19,23 @@ pub struct Judged {
     pub held: u32,
 }
 
+// The frame after the free block of one frame at f, or frame 0 where it is no block by itself.
+// Such blocks are many in a broken-up pool. With their size known beforehand, the processor goes on to the next frame before it has the word.
+fn single_at(frames: &[u32], pool: u32, f: Frame) -> Frame
+    requires { ⌜ length (now frames) ≡ 4096 ⌝ }
+    requires { ⌜ pool ≤ 4096 ⌝ }
+    requires { ⌜ f .0 < pool ⌝ }
+    requires { ⌜ freeIn (now frames) (f .0) ≡ true ⌝ }
+    requires { ⌜ Edge pool (freeIn (now frames)) (f .0) ⌝ }
+    requires { ⌜ getD (now frames) (f .0) 0 ≡ 16384 ⌝ }
+    ensures { λ r. ⌜ Checked pool (now (frames .entry)) (f .0) (r .0) ⌝ }
+{
+    if grows(frames, pool, f, 0) {
+        return Frame(0);
+    }
+    Frame(f.0 + 1)
+}
+
 // The frame after the free block at f, or frame 0 where its words are not lawful.
 // The words themselves are asked for the order, and each is read once; only the other half of the next larger block is read twice.
 fn block_at(frames: &[u32], pool: u32, f: Frame) -> Frame
@@ -31,6 +48,9 @@ fn block_at(frames: &[u32], pool: u32, f: Frame) -> Frame
 {
     let at = f.0 as usize;
     let w = frames[at];
+    if w == 16384 {
+        return single_at(frames, pool, f);
+    }
     if w < 16384 {
         return Frame(0);
     }
