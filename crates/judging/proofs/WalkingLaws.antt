@@ -13,7 +13,7 @@ use Rattle.words.specs.Tables.{part}
 use Rattle.words.specs.Writes.{countsIn, PassTo}
 use Rattle.words.proofs.Cases.{true-false, by-test, and-true, true-and}
 use Rattle.words.proofs.SearchLaws.{at-allFrom, all-step, all-steps, every-at, at-every, every-all}
-use Rattle.words.proofs.CountLaws.{one-if-le, count-ext, count-split, none-pass, all-pass}
+use Rattle.words.proofs.CountLaws.{count-step, one-if-le, count-ext, count-split, none-pass, all-pass}
 use Rattle.runs.specs.PageWords.{mapped, frameIn}
 use Rattle.runs.specs.Walk.{lawfulRanges}
 use Rattle.runs.specs.Steps.{Onward, Along, nowhere, empty, onward}
@@ -136,10 +136,6 @@ module _ (ws : List ℕ) where
   unfolding count
   count-start = refl
 
-  count-one : (i m r : ℕ) → m ≡ count i (pageMapped ws) → r ≡ one-if (mapped (getD ws i 0)) → m + r ≡ count (i + 1) (pageMapped ws)
-  unfolding count pageMapped
-  count-one i m r e q = let s : i + 1 ≡ suc i = omega arith in rw (s, e, q)
-
   count-along : (i w p m c : ℕ) → c ≡ count i (pageMapped ws) → Along ws i w p m → c + m ≡ count (i + p) (pageMapped ws)
   unfolding pageMapped
   count-along i w p m c e nowhere = rw (add-zero c, add-zero i) e
@@ -148,9 +144,10 @@ module _ (ws : List ℕ) where
 
   -- the walk's turn
   pub count-turn : (i w p m c r j : ℕ) → c ≡ count i (pageMapped ws) → r ≡ one-if (mapped (getD ws i 0)) → Along ws (i + 1) w p m → j ≡ i + 1 + p → c + (r + m) ≡ count j (pageMapped ws)
+  unfolding pageMapped
   count-turn i w p m c r j e q along jj =
       let s : c + (r + m) ≡ c + r + m = omega arith in
-      rw (jj, s) (count-along (i + 1) w p m (c + r) (count-one i c r e q) along)
+      rw (jj, s) (count-along (i + 1) w p m (c + r) (count-step (pageMapped ws) i c r e q) along)
 
 pub one-small : (w r : ℕ) → r ≡ one-if (mapped w) → r ≤ 1
 one-small w r e = let q = one-if-le (mapped w) in omega arith
