@@ -1,13 +1,13 @@
 -- What a record does, from the parts of the step.
 use mathlib.Core.Path.{_≡_, refl, ap, sym, subst, _∙_}
-use mathlib.Core.Bool.{false}
+use mathlib.Core.Bool.{Bool, true, false, _&&_}
 use Prim.Native.Nat.{ℕ}
 use lib.Dec.{eqb}
 use borrow.Author.Tests.{eq-eqb, ne-eqb}
 use Rattle.words.proofs.Cases.{by-test}
 use Rattle.blocks.specs.declared.Outcome.{Outcome}
 use Rattle.layout.specs.declared.Answer.{Answer}
-use Rattle.layout.specs.Answers.{refusal, outcome}
+use Rattle.layout.specs.Answers.{refusal, outcome, accepted}
 use Rattle.layout.specs.Tables.{Tables}
 use Rattle.history.specs.declared.Unit.{Unit as TlbUnit}
 use Rattle.history.specs.declared.Call.{Call}
@@ -56,17 +56,19 @@ pub both-fresh : (t : Translation) → t ≡ freshly → record { first = t .uni
 unfolding freshUnits freshly
 both-fresh t e = ap (λ (x : Translation). record { first = x .unit; second = x .unit }) e
 
--- the units after a record
-module _ (k : ℕ) (a : Answer) (p : TwoUnits) where
-  pub other-kind : (k ≡ 1 → ⊥) → p ≡ renewed k a p
-  unfolding renewed
+-- whether a record renews the units, and the units after it
+module _ (k : ℕ) (a : Answer) where
+  pub other-kind : (k ≡ 1 → ⊥) → false ≡ (eqb k 1 && accepted a)
   other-kind h = rw (ne-eqb _ _ h)
 
-  module _ (e : k ≡ 1) (o : Outcome) (is-outcome : o ≡ outcome a) where
-    pub not-set-up : (o .number ≡ 0 → ⊥) → p ≡ renewed k a p
-    unfolding renewed
-    not-set-up h = rw (eq-eqb _ _ e, ne-eqb _ _ (λ z. h (ap (λ (x : Outcome). x .number) is-outcome ∙ z)))
+  pub by-number : k ≡ 1 → (o : Outcome) → o ≡ outcome a → eqb (o .number) 0 ≡ (eqb k 1 && accepted a)
+  by-number e o is = rw (eq-eqb _ _ e) (ap (λ (x : Outcome). eqb (x .number) 0) is)
 
-    pub set-up : o .number ≡ 0 → freshUnits ≡ renewed k a p
+  module _ (p : TwoUnits) (r : Bool) (is : r ≡ (eqb k 1 && accepted a)) where
+    pub stay : r ≡ false → p ≡ renewed k a p
     unfolding renewed
-    set-up h = rw (eq-eqb _ _ e, eq-eqb _ _ (sym (ap (λ (x : Outcome). x .number) is-outcome) ∙ h))
+    stay f = rw (← is, f)
+
+    pub renew : r ≡ true → freshUnits ≡ renewed k a p
+    unfolding renewed
+    renew t = rw (← is, t)

@@ -1,7 +1,8 @@
 // What a record does to the tables and two units.
 ghost use mathlib.Core.Path.{_≡_};
-ghost use mathlib.Core.Bool.{false};
-ghost use Rattle.layout.specs.Answers.{refusal};
+ghost use mathlib.Core.Bool.{_&&_};
+ghost use lib.Dec.{eqb};
+ghost use Rattle.layout.specs.Answers.{refusal, accepted};
 ghost use Rattle.layout.specs.Tables.{tables};
 ghost use Rattle.history.specs.Lists.{takesUnit};
 ghost use Rattle.trace.specs.declared.Meaning.the-variants.{Asked};
@@ -61,18 +62,25 @@ fn with_unit(p: TwoUnits, n: u32, u: Unit) -> TwoUnits
     q
 }
 
+// Whether a record of a kind that is answered so makes both units fresh.
+fn renews(kind: u32, a: Answer) -> bool
+    ensures { λ r. ⌜ r ≡ (eqb kind 1 && accepted a) ⌝ }
+{
+    if kind != 1 {
+        return false;
+    }
+    let o = tables::outcome(a);
+    o.number == 0
+}
+
 // The units after a record of a kind is answered: fresh where it set up the pool.
 fn renewed(kind: u32, a: Answer, p: TwoUnits) -> TwoUnits
     ensures { λ r. ⌜ r ≡ renewed kind a p ⌝ }
 {
-    if kind != 1 {
-        return p;
+    if renews(kind, a) {
+        return fresh_units();
     }
-    let o = tables::outcome(a);
-    if o.number != 0 {
-        return p;
-    }
-    fresh_units()
+    p
 }
 
 // What is shown of a call on unit n, and the units afterwards.
@@ -105,49 +113,18 @@ fn on_unit(
     answered(kind, n, p, t)
 }
 
-// Makes a call that takes none: no unit is copied for it.
-fn beside_units(
-    kind: u32,
-    n: u32,
-    call: Call,
-    p: TwoUnits,
-    control: &mut [u32],
-    frames: &mut [u32],
-    pages: &mut [u32],
-    ranges: &mut [u32],
-) -> Step
-    requires { ⌜ takesUnit call ≡ false ⌝ }
-    ensures { λ r. ⌜ Taken (tables (now (control .entry)) (now (frames .entry)) (now (pages .entry)) (now (ranges .entry))) p (Asked kind n call) r (tables (now (control .exit)) (now (frames .exit)) (now (pages .exit)) (now (ranges .exit))) ⌝ }
-{
-    let a = units::on_tables(call, control, frames, pages, ranges);
-    Step {
-        kind,
-        outcome: tables::outcome(a),
-        units: renewed(kind, a, p),
-    }
-}
-
-// Makes a call of a kind, on unit n where it takes one.
-fn made(
-    kind: u32,
-    n: u32,
-    call: Call,
-    p: TwoUnits,
-    control: &mut [u32],
-    frames: &mut [u32],
-    pages: &mut [u32],
-    ranges: &mut [u32],
-) -> Step
-    ensures { λ r. ⌜ Taken (tables (now (control .entry)) (now (frames .entry)) (now (pages .entry)) (now (ranges .entry))) p (Asked kind n call) r (tables (now (control .exit)) (now (frames .exit)) (now (pages .exit)) (now (ranges .exit))) ⌝ }
+// Whether a call is lent a unit.
+fn takes_unit(call: Call) -> bool
+    ensures { λ r. ⌜ r ≡ takesUnit call ⌝ }
 {
     match call {
-        Call::SetUpUnit => on_unit(kind, n, call, p, control, frames, pages, ranges),
-        Call::Translate { .. } => on_unit(kind, n, call, p, control, frames, pages, ranges),
-        _ => beside_units(kind, n, call, p, control, frames, pages, ranges),
+        Call::SetUpUnit => true,
+        Call::Translate { .. } => true,
+        _ => false,
     }
 }
 
-// Takes a record: a malformed one answers 16 and changes nothing.
+// Takes a record: a malformed one answers 16 and changes nothing. For a call that takes no unit none is copied.
 pub fn take(
     m: Meaning,
     p: TwoUnits,
@@ -164,15 +141,24 @@ pub fn take(
             outcome: malformed(),
             units: p,
         },
-        Meaning::Asked { kind, unit, call } => made(
-            kind,
-            unit,
-            call,
-            p,
-            control,
-            frames,
-            pages,
-            ranges,
-        ),
+        Meaning::Asked { kind, unit, call } => {
+            if takes_unit(call) {
+                return on_unit(kind, unit, call, p, control, frames, pages, ranges);
+            }
+            let a = units::on_tables(call, control, frames, pages, ranges);
+            let outcome = tables::outcome(a);
+            if renews(kind, a) {
+                return Step {
+                    kind,
+                    outcome,
+                    units: fresh_units(),
+                };
+            }
+            Step {
+                kind,
+                outcome,
+                units: p,
+            }
+        }
     }
 }

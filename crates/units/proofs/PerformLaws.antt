@@ -15,11 +15,11 @@ use Rattle.units.specs.Translation.{translation, freshly}
 use Rattle.units.specs.Performing.{OnTables}
 use Rattle.units.proofs.TranslationLaws.{translation-done, fresh-done}
 
-unit-set-up : takesUnit SetUpUnit ≡ true
+pub unit-set-up : takesUnit SetUpUnit ≡ true
 unfolding takesUnit
 unit-set-up = refl
 
-unit-translate : (s p x : ℕ) → takesUnit (Translate s p x) ≡ true
+pub unit-translate : (s p x : ℕ) → takesUnit (Translate s p x) ≡ true
 unfolding takesUnit
 unit-translate s p x = refl
 
