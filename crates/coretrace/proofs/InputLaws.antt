@@ -1,12 +1,121 @@
--- A whole record that was read.
-use mathlib.Core.Path.{_≡_, subst, sym}
+-- The bytes that wait: the record that they begin with, and what reading on keeps of them.
+use mathlib.Core.Path.{_≡_, refl, ap, sym, subst, _∙_}
+use mathlib.Core.Bool.{Bool, true, false, cond}
 use mathlib.Core.List.{List}
-use Prim.Native.Nat.{ℕ, _≤_}
-use lib.ListN.{take}
+use Prim.Native.Nat.{ℕ, _+_, _-_, _*_, _≤_, _<_}
+use native.Mathlib.Nat.{zero-add, add-comm}
+use native.Mathlib.Numerals.{add-one}
+use native.Mathlib.Omega.{arith}
+use lib.Dec.{ltb}
+use lib.ListN.{length, getD, take, drop, set, length-drop}
+use lib.Seq.{take-take, paste, take-paste, drop-paste, paste-suc, getD-drop}
+use borrow.Author.Tests.{lt-ltb, le-ltb, eq-eqb, ne-eqb}
 use Rattle.trace.specs.declared.Meaning.{Meaning}
-use Rattle.trace.specs.Records.{meaning}
-use Rattle.coretrace.specs.declared.input.Next.the-variants.{Whole}
-use Rattle.coretrace.specs.Input.{Fetched, fetched}
+use Rattle.trace.specs.Records.{wordAt, meaning}
+use Rattle.coretrace.specs.declared.input.Window.{Window}
+use Rattle.coretrace.specs.declared.input.Next.the-variants.{End, Cut, Whole}
+use Rattle.coretrace.specs.Input.{waiting, standing, recordOf, nextOf}
 
-pub whole : (block : List ℕ) (n : ℕ) (m : Meaning) → n ≤ 65535 → m ≡ meaning (take n block) → Fetched block (Whole m)
-whole block n m h e = subst (λ (x : Meaning). Fetched block (Whole x)) (sym e) (fetched n h)
+-- a length that is not 0 passed both tests
+not-refused : (p q : Bool) (n : ℕ) → (cond p 0 (cond q 0 n) ≡ 0 → ⊥) → cond p 0 (cond q 0 n) ≡ n
+not-refused true q n f = absurd (f refl)
+not-refused false true n f = absurd (f refl)
+not-refused false false n f = refl
+
+-- the length of the record at the front, where n is the number that the head's two bytes give
+module _ (b : List ℕ) where
+  pub no-head : length b < 2 → standing b ≡ 0
+  unfolding standing
+  no-head h = rw (lt-ltb (length b) 2 h)
+
+  module _ (n : ℕ) (head : n ≡ getD b 0 0 + 256 * getD b 1 0) (h : 2 ≤ length b) where
+    head-is : wordAt b 0 ≡ n
+    unfolding wordAt
+    head-is = sym head
+
+    pub part-of : length b < n + 2 → standing b ≡ 0
+    unfolding standing
+    part-of l = rw (le-ltb (length b) 2 h, head-is, lt-ltb (length b) (n + 2) l)
+
+    pub stands : n + 2 ≤ length b → standing b ≡ n + 2
+    unfolding standing
+    stands l = rw (le-ltb (length b) 2 h, head-is, le-ltb (length b) (n + 2) l)
+
+  pub stands-so : (standing b ≡ 0 → ⊥) → standing b ≡ wordAt b 0 + 2
+  unfolding standing
+  stands-so f = not-refused (ltb (length b) 2) (ltb (length b) (wordAt b 0 + 2)) (wordAt b 0 + 2) f
+
+-- what the bytes give
+module _ (b : List ℕ) where
+  pub none-left : length b ≡ 0 → End ≡ nextOf b
+  unfolding nextOf
+  none-left e = rw (eq-eqb (length b) 0 e)
+
+  module _ (some : length b ≡ 0 → ⊥) where
+    pub cut-short : standing b ≡ 0 → Cut ≡ nextOf b
+    unfolding nextOf
+    cut-short e = rw (ne-eqb (length b) 0 some, eq-eqb (standing b) 0 e)
+
+    module _ (n : ℕ) (is : n ≡ standing b) (whole : n ≡ 0 → ⊥) where
+      stands-there : standing b ≡ 0 → ⊥
+      stands-there e = whole (is ∙ e)
+
+      pub record-is : n ≡ wordAt b 0 + 2
+      record-is = is ∙ stands-so b stands-there
+
+      less-head : n - 2 ≡ wordAt b 0
+      less-head = let e = record-is in omega arith
+
+      pub all-there : (m : Meaning) → m ≡ meaning (take (n - 2) (drop 2 b)) → Whole m ≡ nextOf b
+      unfolding nextOf recordOf
+      all-there m e = rw (ne-eqb (length b) 0 some, ne-eqb (standing b) 0 stands-there) (ap Whole (e ∙ ap (λ (k : ℕ). meaning (take k (drop 2 b))) less-head))
+
+-- bytes moved to the front: j of those from a place on
+module _ (x : List ℕ) (from j : ℕ) (h : from + j < length x) where
+  fits : j < length (drop from x)
+  fits = let d : length (drop from x) ≡ length x - from = length-drop from x in omega arith
+
+  fits-too : j ≤ length (drop from x)
+  fits-too = let f = fits in omega arith
+
+  later-bytes : drop j (paste x 0 (drop from x) j) ≡ drop j x
+  later-bytes = subst (λ (i : ℕ). drop i (paste x 0 (drop from x) j) ≡ drop i x) (zero-add j) (drop-paste x 0 (drop from x) j (omega arith) fits-too)
+
+  -- the byte that comes next is as it was
+  same-byte : getD (paste x 0 (drop from x) j) (from + j) 0 ≡ getD (drop from x) j 0
+  same-byte =
+      ap (λ (i : ℕ). getD (paste x 0 (drop from x) j) i 0) (add-comm from j)
+      ∙ sym (getD-drop j (paste x 0 (drop from x) j) from 0)
+      ∙ ap (λ (l : List ℕ). getD l from 0) later-bytes
+      ∙ getD-drop j x from 0
+      ∙ ap (λ (i : ℕ). getD x i 0) (add-comm j from)
+      ∙ sym (getD-drop from x j 0)
+
+  pub one-more : set (paste x 0 (drop from x) j) j (getD (paste x 0 (drop from x) j) (from + j) 0) ≡ paste x 0 (drop from x) (j + 1)
+  one-more =
+      ap (set (paste x 0 (drop from x) j) j) same-byte
+      ∙ ap (λ (i : ℕ). set (paste x 0 (drop from x) j) i (getD (drop from x) j 0)) (sym (zero-add j))
+      ∙ paste-suc x 0 (drop from x) j 0 (omega arith) fits
+      ∙ ap (paste x 0 (drop from x)) (sym (add-one j))
+
+-- what stands at the front of y as of x does so of a shorter front
+pub shorter : (n to : ℕ) (x y : List ℕ) → n ≤ to → take to y ≡ take to x → take n y ≡ take n x
+shorter n to x y h e = sym (take-take n to y h) ∙ ap (take n) e ∙ take-take n to x h
+
+-- reading on keeps what waits
+module _ (w : Window) (x : List ℕ) where
+  pub as-before : take (w .to - w .from) (waiting w x) ≡ waiting w x
+  unfolding waiting
+  as-before = take-take (w .to - w .from) (w .to - w .from) (drop (w .from) x) (omega arith)
+
+  module _ (y z : List ℕ) (to : ℕ) (h : w .to ≤ length x) (l : w .to - w .from ≤ to) where
+    room : w .to - w .from ≤ length (drop (w .from) x)
+    room = let d : length (drop (w .from) x) ≡ length x - w .from = length-drop (w .from) x in omega arith
+
+    pub moved : y ≡ paste x 0 (drop (w .from) x) (w .to - w .from) → take (w .to - w .from) z ≡ take (w .to - w .from) y → take (w .to - w .from) (waiting (record { from = 0; to = to }) z) ≡ waiting w x
+    unfolding waiting
+    moved s e =
+        take-take (w .to - w .from) (to - 0) z (omega arith)
+        ∙ e
+        ∙ ap (take (w .to - w .from)) s
+        ∙ subst (λ (i : ℕ). take i (paste x 0 (drop (w .from) x) (w .to - w .from)) ≡ take (w .to - w .from) (drop (w .from) x)) (zero-add (w .to - w .from)) (take-paste x 0 (drop (w .from) x) (w .to - w .from) (omega arith) room)

@@ -1,0 +1,92 @@
+use mathlib.Core.Path.{_≡_, refl, ap, _∙_}
+use mathlib.Core.List.{List}
+use Prim.Native.Nat.{ℕ, _+_, _-_, _≤_}
+use native.Mathlib.Omega.{arith}
+use lib.ListN.{length, set, getD, drop, length-set}
+use lib.Seq.{paste, paste-zero}
+use Rattle.coretrace.proofs.InputLaws.{one-more}
+use borrow.Author.Needs.{needs}
+use Rattle.coretrace.proofs.input.shift.Statement.{statement}
+use Rattle.coretrace.proofs.input.shift.Tie as tie
+use Rattle.coretrace.proofs.input.shift.Reads as reads
+use Rattle.coretrace.proofs.input.shift.Lts as lts
+
+abbrev Inv-loop : tie.InvT-loop
+Inv-loop space₀ from to i₀ i-end space i = (length space ≡ length space₀) × ((i-end ≡ to - from) × ((i ≤ i-end) × (space ≡ paste space₀ 0 (drop from space₀) i)))
+
+abbrev μ-loop : tie.MeasureT-loop
+μ-loop space₀ from to i₀ i-end space i = i-end - i
+
+-- src/input.rt:58:17
+sub-i-end : tie.Need-sub-i-end Inv-loop μ-loop
+sub-i-end c = search needs
+
+-- src/input.rt:58:5
+loop-holds : tie.Need-loop-holds Inv-loop μ-loop
+loop-holds c =
+    let a = c .args in
+    (refl, (refl, (omega arith, paste-zero (a .space .now) 0 (drop (a .from) (a .space .now)))))
+
+-- src/input.rt:59:26
+add-space : tie.Need-add-space Inv-loop μ-loop
+add-space c = search needs
+
+-- src/input.rt:59:20
+slice-read-space : tie.Need-slice-read-space Inv-loop μ-loop
+slice-read-space c = search needs
+
+-- src/input.rt:59:9
+slice-write-space : tie.Need-slice-write-space Inv-loop μ-loop
+slice-write-space c = search needs
+
+-- src/input.rt:58:9
+add-i : tie.Need-add-i Inv-loop μ-loop
+add-i c = search needs
+
+-- src/input.rt:58:5
+loop-less : tie.Need-loop-less Inv-loop μ-loop
+loop-less c = search needs
+
+-- src/input.rt:58:5
+loop-again : tie.Need-loop-again Inv-loop μ-loop
+loop-again c =
+    let l = c .before .before .loop in
+    let a = c .before .before .before .args in (
+      simp length-set (l .inv .0),
+      (
+        l .inv .1 .0,
+        (
+          omega arith,
+          ap (λ (d : List ℕ). set d (l .i) (getD d (a .from + l .i) 0)) (l .inv .1 .1 .1) ∙ one-more (a .space .now) (a .from) (l .i) (omega arith),
+        ),
+      ),
+    )
+
+-- src/input.rt:53:1
+same-length : tie.Need-same-length Inv-loop μ-loop
+same-length c = search needs
+
+-- src/input.rt:53:1
+returns : tie.Need-returns Inv-loop μ-loop
+returns c =
+    let l = c .before .loop in
+    let a = c .before .before .args in
+    let all : l .i ≡ a .to - a .from = omega arith in
+    l .inv .1 .1 .1 ∙ ap (paste (a .space .now) 0 (drop (a .from) (a .space .now))) all
+
+pub shift-spec : {M : Type 1} → statement M
+shift-spec =
+    tie.close
+    (tie.spec
+    Inv-loop
+    μ-loop
+    sub-i-end
+    loop-holds
+    add-space
+    slice-read-space
+    slice-write-space
+    add-i
+    loop-less
+    loop-again
+    same-length
+    returns)
