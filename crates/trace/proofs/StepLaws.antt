@@ -31,13 +31,18 @@ module _ (T : Tables) (p : TwoUnits) (m : Meaning) (k : ℕ) where
   asks n c r T′ e t = subst (λ (x : Meaning). Taken T p x r T′) (sym e) t
 
 module _ (T T′ : Tables) (p : TwoUnits) (k n : ℕ) (c : Call) (v : TlbUnit) (t : Translation) (r : Step) where
-  pub makes : v ≡ unitAt p n → Does T v (t .answer) c T′ (t .unit) → r ≡ answered k n p t → Taken T p (Asked k n c) r T′
+  makes : v ≡ unitAt p n → Does T v (t .answer) c T′ (t .unit) → r ≡ answered k n p t → Taken T p (Asked k n c) r T′
   makes e does is = subst (λ (x : Step). Taken T p (Asked k n c) x T′) (sym is) (made (subst (λ (x : TlbUnit). Does T x (t .answer) c T′ (t .unit)) e does))
 
-module _ (k n : ℕ) (p : TwoUnits) (t : Translation) (o : Outcome) (q r : TwoUnits) where
-  pub answers : o ≡ outcome (t .answer) → q ≡ withUnit p n (t .unit) → r ≡ renewed k (t .answer) q → record { kind = k; outcome = o; units = r } ≡ answered k n p t
+module _ (k n : ℕ) (p : TwoUnits) (t : Translation) (o : Outcome) (q : TwoUnits) where
+  answers : o ≡ outcome (t .answer) → q ≡ renewed k (t .answer) (withUnit p n (t .unit)) → record { kind = k; outcome = o; units = q } ≡ answered k n p t
   unfolding answered
-  answers eo eq er = rw (eo, er, eq)
+  answers eo eq = rw (eo, eq)
+
+-- a call on unit n
+module _ (T T′ : Tables) (p : TwoUnits) (k n : ℕ) (c : Call) (v : TlbUnit) (t : Translation) (o : Outcome) (q : TwoUnits) where
+  pub makes-on : v ≡ unitAt p n → Does T v (t .answer) c T′ (t .unit) → o ≡ outcome (t .answer) → q ≡ renewed k (t .answer) (withUnit p n (t .unit)) → Taken T p (Asked k n c) (record { kind = k; outcome = o; units = q }) T′
+  makes-on e does eo eq = makes T T′ p k n c v t (record { kind = k; outcome = o; units = q }) e does (answers k n p t o q eo eq)
 
 -- a call beside the units
 
@@ -50,7 +55,7 @@ module _ (T T′ : Tables) (p : TwoUnits) (k n : ℕ) (c : Call) (a : Answer) (o
   makes-beside f on eo eq =
       let t : Translation = record { unit = unitAt p n; answer = a } in
       let e : q ≡ renewed k a (withUnit p n (unitAt p n)) = eq ∙ ap (renewed k a) (sym (same-units p n)) in
-      makes T T′ p k n c (unitAt p n) t (record { kind = k; outcome = o; units = q }) refl (on .does f (unitAt p n)) (answers k n p t o (withUnit p n (unitAt p n)) q eo refl e)
+      makes-on T T′ p k n c (unitAt p n) t o q refl (on .does f (unitAt p n)) eo e
 
 pub both-fresh : (t : Translation) → t ≡ freshly → record { first = t .unit; second = t .unit } ≡ freshUnits
 unfolding freshUnits freshly

@@ -6,7 +6,7 @@ ghost use Rattle.layout.specs.Answers.{refusal, accepted};
 ghost use Rattle.layout.specs.Tables.{tables};
 ghost use Rattle.history.specs.Lists.{takesUnit};
 ghost use Rattle.trace.specs.declared.Meaning.the-variants.{Asked};
-ghost use Rattle.trace.specs.Steps.{freshUnits, unitAt, withUnit, renewed, answered, Taken};
+ghost use Rattle.trace.specs.Steps.{freshUnits, unitAt, withUnit, Taken};
 use crate::Meaning;
 use crate::Step;
 use crate::TwoUnits;
@@ -14,7 +14,6 @@ use blocks::Outcome;
 use history::Call;
 use history::Unit;
 use layout::Answer;
-use units::Translation;
 
 // What is shown of a malformed record.
 pub fn malformed() -> Outcome
@@ -73,29 +72,6 @@ fn renews(kind: u32, a: Answer) -> bool
     o.number == 0
 }
 
-// The units after a record of a kind is answered: fresh where it set up the pool.
-fn renewed(kind: u32, a: Answer, p: TwoUnits) -> TwoUnits
-    ensures { λ r. ⌜ r ≡ renewed kind a p ⌝ }
-{
-    if renews(kind, a) {
-        return fresh_units();
-    }
-    p
-}
-
-// What is shown of a call on unit n, and the units afterwards.
-fn answered(kind: u32, n: u32, p: TwoUnits, t: Translation) -> Step
-    ensures { λ r. ⌜ r ≡ answered kind n p t ⌝ }
-{
-    let a = t.answer;
-    let u = t.unit;
-    Step {
-        kind,
-        outcome: tables::outcome(a),
-        units: renewed(kind, a, with_unit(p, n, u)),
-    }
-}
-
 // Makes a call that takes a unit on unit n.
 fn on_unit(
     kind: u32,
@@ -110,7 +86,20 @@ fn on_unit(
     ensures { λ r. ⌜ Taken (tables (now (control .entry)) (now (frames .entry)) (now (pages .entry)) (now (ranges .entry))) p (Asked kind n call) r (tables (now (control .exit)) (now (frames .exit)) (now (pages .exit)) (now (ranges .exit))) ⌝ }
 {
     let t = units::perform(call, unit_at(p, n), control, frames, pages, ranges);
-    answered(kind, n, p, t)
+    let a = t.answer;
+    let outcome = tables::outcome(a);
+    if renews(kind, a) {
+        return Step {
+            kind,
+            outcome,
+            units: fresh_units(),
+        };
+    }
+    Step {
+        kind,
+        outcome,
+        units: with_unit(p, n, t.unit),
+    }
 }
 
 // Whether a call is lent a unit.
