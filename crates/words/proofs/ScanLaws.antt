@@ -52,14 +52,6 @@ module _ (p : ℕ → Bool) (s e : ℕ) where
   pub pass-one : (g : ℕ) → PassTo p s e g → g < e → p g ≡ true → PassTo p s e (g + 1)
   pass-one g x h t = pass-chunk g 1 x (omega arith) (at-allFrom 1 g p (λ k lo hi. let q : k ≡ g = omega arith in rw q t))
 
-  -- one scan after another
-  pub pass-on : (g r : ℕ) → PassTo p s e g → PassTo p g e r → PassTo p s e r
-  pass-on g r x y = record {
-    from = omega (arith, x .from, y .from);
-    to = y .to;
-    pass = λ k lo hi. by-dec (decLt k g) (λ lt. x .pass k lo lt) (λ ge. y .pass k (omega arith) hi);
-  }
-
   -- all pass exactly where the scan reaches the end
   pub pass-all : (r : ℕ) → s ≤ e → PassTo p s e r → ((r ≡ e → ⊥) → p r ≡ false) → eqb r e ≡ allFrom (e - s) s p
   pass-all r h x stop =

@@ -90,18 +90,15 @@ fn chunk_counts(words: &[u32], at: usize, v: u32) -> bool
     n == 16
 }
 
-// A place up to which the words from `at` on go on v, v + 1, .. at `from`, chunk after chunk. A chunk starts at a multiple of sixteen, so that a short stretch is read singly.
-fn counts_chunks(words: &[u32], from: usize, at: usize, end: usize, v: u32) -> usize
+// A place up to which the words from `from` on are v, v + 1, .., chunk after chunk.
+fn counts_chunks(words: &[u32], from: usize, end: usize, v: u32) -> usize
     requires { ⌜ end ≤ length (now words) ⌝ }
-    requires { ⌜ (from ≤ at) × (at ≤ end) ⌝ }
+    requires { ⌜ from ≤ end ⌝ }
     requires { ⌜ v + (end - from) ≤ 4294967296 ⌝ }
-    ensures { λ r. ⌜ PassTo (countsIn (now (words .entry)) from v) at end r ⌝ }
+    ensures { λ r. ⌜ PassTo (countsIn (now (words .entry)) from v) from end r ⌝ }
 {
-    let mut g = at;
-    while g % 16 == 0 {
-        if end - g < 16 {
-            return g;
-        }
+    let mut g = from;
+    while 16 <= end - g {
         if !chunk_counts(words, g, v + ((g - from) as u32)) {
             return g;
         }
@@ -118,12 +115,12 @@ pub fn counts_to(words: &[u32], from: usize, end: usize, v: u32) -> usize
     ensures { λ r. ⌜ PassTo (countsIn (now (words .entry)) from v) from end r ⌝ }
     ensures { λ r. ⌜ ((r ≡ end → ⊥) → countsIn (now (words .entry)) from v r ≡ false) ⌝ }
 {
-    let mut g = from;
+    let mut g = counts_chunks(words, from, end, v);
     while g < end {
         if words[g] != v + ((g - from) as u32) {
             return g;
         }
-        g = counts_chunks(words, from, g + 1, end, v);
+        g += 1;
     }
     g
 }

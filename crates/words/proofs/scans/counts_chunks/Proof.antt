@@ -12,44 +12,40 @@ use Rattle.words.proofs.scans.counts_chunks.Lts as lts
 use Rattle.words.proofs.scans.chunk_counts.Reads as chunk-counts-reads
 
 abbrev Inv-loop : tie.InvT-loop
-Inv-loop words from at end v g₀ g = PassTo (countsIn words from v) at end g
+Inv-loop words from end v g₀ g = PassTo (countsIn words from v) from end g
 
 abbrev μ-loop : tie.MeasureT-loop
-μ-loop words from at end v g₀ g = end - g
+μ-loop words from end v g₀ g = end - g
 
 -- src/scans.rt:101:5
 loop-holds : tie.Need-loop-holds Inv-loop μ-loop
 loop-holds c = pass-none _ _ _ (omega arith)
 
--- src/scans.rt:102:12
-sub-if1 : tie.Need-sub-if1 Inv-loop μ-loop
-sub-if1 c = search needs
+-- src/scans.rt:101:17
+sub-loop : tie.Need-sub-loop Inv-loop μ-loop
+sub-loop c = search needs
 
--- src/scans.rt:103:13
-returns : tie.Need-returns Inv-loop μ-loop
-returns c = c .before .before .loop .inv
-
--- src/scans.rt:105:42
+-- src/scans.rt:102:42
 sub-chunk-counts : tie.Need-sub-chunk-counts Inv-loop μ-loop
 sub-chunk-counts c = search needs
 
--- src/scans.rt:105:41
+-- src/scans.rt:102:41
 cast-chunk-counts : tie.Need-cast-chunk-counts Inv-loop μ-loop
 cast-chunk-counts c = search needs
 
--- src/scans.rt:105:36
+-- src/scans.rt:102:36
 add-chunk-counts : tie.Need-add-chunk-counts Inv-loop μ-loop
 add-chunk-counts c = search needs
 
--- src/scans.rt:105:13
+-- src/scans.rt:102:13
 chunk-counts-requires : tie.Need-chunk-counts-requires Inv-loop μ-loop
 chunk-counts-requires c κs = search needs
 
--- src/scans.rt:106:13
-returns-2 : tie.Need-returns-2 Inv-loop μ-loop
-returns-2 c = c .before .before .before .before .loop .inv
+-- src/scans.rt:103:13
+returns : tie.Need-returns Inv-loop μ-loop
+returns c = c .before .before .before .loop .inv
 
--- src/scans.rt:108:9
+-- src/scans.rt:105:9
 add-g : tie.Need-add-g Inv-loop μ-loop
 add-g c = search needs
 
@@ -59,11 +55,11 @@ loop-less c = search needs
 
 -- src/scans.rt:101:5
 loop-again : tie.Need-loop-again Inv-loop μ-loop
-loop-again c = pass-chunk _ _ _ _ 16 (c .before .before .before .before .loop .inv) (omega (arith, c .before .before .before .before .loop .inv .to)) (sym (counts-later _ _ _ _ 16 (omega (arith, c .before .before .before .before .loop .inv .from))) ∙ sym (c .before .chunk-counts .ensures) ∙ not-false _ (c .if2 .left))
+loop-again c = pass-chunk _ _ _ _ 16 (c .before .before .before .loop .inv) (omega (arith, c .before .before .before .loop .inv .to)) (sym (counts-later _ _ _ _ 16 (c .before .before .before .loop .inv .from)) ∙ sym (c .before .chunk-counts .ensures) ∙ not-false _ (c .if1 .left))
 
 -- src/scans.rt:94:1
-returns-3 : tie.Need-returns-3 Inv-loop μ-loop
-returns-3 c = c .before .loop .inv
+returns-2 : tie.Need-returns-2 Inv-loop μ-loop
+returns-2 c = c .before .loop .inv
 
 pub counts-chunks-spec : {M : Type 1} → statement M
 counts-chunks-spec =
@@ -72,14 +68,13 @@ counts-chunks-spec =
     Inv-loop
     μ-loop
     loop-holds
-    sub-if1
-    returns
+    sub-loop
     sub-chunk-counts
     cast-chunk-counts
     add-chunk-counts
     chunk-counts-requires
-    returns-2
+    returns
     add-g
     loop-less
     loop-again
-    returns-3)
+    returns-2)
