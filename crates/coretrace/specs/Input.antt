@@ -21,7 +21,7 @@ standing b = cond (ltb (length b) 2) 0 (cond (ltb (length b) (wordAt b 0 + 2)) 0
 unfoldable pub recordOf : List ℕ → List ℕ
 recordOf b = take (wordAt b 0) (drop 2 b)
 
--- no byte: the end; a record that is not whole: a cut; else what the record asks for
+-- where no more bytes can be read. No byte: the end; a record that is not whole: a cut; else what the record asks for
 unfoldable pub nextOf : List ℕ → Next
 nextOf b = cond (eqb (length b) 0) End (cond (eqb (standing b) 0) Cut (Whole (meaning (recordOf b))))
 

@@ -13,7 +13,7 @@ use crate::settling::grows;
 use blocks::Frame;
 use words::scans::all_same;
 
-// What the check finds: whether the words are lawful, and how many frames are held.
+// What the check finds: whether the words are lawful, and where they are, how many frames are held.
 pub struct Judged {
     pub lawful: bool,
     pub held: u32,

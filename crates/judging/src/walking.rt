@@ -22,7 +22,7 @@ use ranges::walk::over;
 use runs::Page;
 use words::scans::counts_to;
 
-// What a walk finds: whether the words are sound, and how many pages are mapped.
+// What a walk finds: whether the words are sound, and where they are, how many pages are mapped.
 pub struct Walked {
     pub sound: bool,
     pub mapped: u32,

@@ -36,8 +36,11 @@ module _ (done : Answer → Tables → Type 0) (T : Tables) (vs : List ℕ) wher
   no-place n = record { called = λ e. absurd (n e); number = λ m. refl; tables = λ m. refl; values = λ m. refl }
 
 module _ (done : Answer → TlbUnit → Type 0) (ws vs : List ℕ) where
-  pub no-places : (length ws ≡ 515 → length vs ≡ 2 → ⊥) → UnitExported done ws vs 1 ws vs
-  no-places n = record { called = λ e g. absurd (n e g); number = λ m. refl; words = λ m. refl; values = λ m. refl }
+  pub no-values : (length vs ≡ 2 → ⊥) → UnitExported done ws vs 1 ws vs
+  no-values n = record { called = λ e g. absurd (n g); number = λ m. refl; words = λ m. refl; zeros = λ m g. absurd (n g); values = λ m. refl }
+
+  pub no-unit : (r : ℕ) (vs′ : List ℕ) → (length ws ≡ 515 → ⊥) → length vs ≡ 2 → (r ≡ 1) × (vs′ ≡ 0 ∷ 0 ∷ []) → UnitExported done ws vs r ws vs′
+  no-unit r vs′ n two gave = record { called = λ e g. absurd (n e); number = λ m. gave .0; words = λ m. refl; zeros = λ m g. gave .1; values = λ m. absurd (m two) }
 
   module _ (a : Answer) (r : ℕ) (vs′ : List ℕ) (long : length ws ≡ 515) (two : length vs ≡ 2) (gave : (r ≡ outcome a .number) × (vs′ ≡ outcome a .first ∷ outcome a .second ∷ [])) where
     exported-unit : (ws′ : List ℕ) → UnitLeft done a ws ws′ → UnitExported done ws vs r ws′ vs′
@@ -46,7 +49,8 @@ module _ (done : Answer → TlbUnit → Type 0) (ws vs : List ℕ) where
           called = λ e g. record { answer = a; promise = d; number = gave .0; values = gave .1 };
           number = λ n. absurd (n long two);
           words = λ n. absurd (n long two);
-          values = λ n. absurd (n long two);
+          zeros = λ n e. absurd (n long);
+          values = λ n. absurd (n two);
         }
 
     -- accepted, and the unit written

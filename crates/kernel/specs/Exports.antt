@@ -30,9 +30,10 @@ pub record UnitLeft (done : Answer → TlbUnit → Type 0) (a : Answer) (ws ws�
   pub words : ws′ ≡ leaves a (wordsOf unit) ws
   pub again : unitOf ws′ ≡ unit
 
--- a call on a unit: another length of its words or of the place for the values is refusal 1, and alters nothing
+-- a call on a unit: another length of its words or of the place for the values is refusal 1, and alters neither unit nor buffer; a place of two words gets the zeros of a refusal, another is left as it was
 pub record UnitExported (done : Answer → TlbUnit → Type 0) (ws vs : List ℕ) (r : ℕ) (ws′ vs′ : List ℕ) : Type 0 where
   pub called : length ws ≡ 515 → length vs ≡ 2 → Answered (λ a. UnitLeft done a ws ws′) r vs′
   pub number : (length ws ≡ 515 → length vs ≡ 2 → ⊥) → r ≡ 1
   pub words : (length ws ≡ 515 → length vs ≡ 2 → ⊥) → ws′ ≡ ws
-  pub values : (length ws ≡ 515 → length vs ≡ 2 → ⊥) → vs′ ≡ vs
+  pub zeros : (length ws ≡ 515 → ⊥) → length vs ≡ 2 → vs′ ≡ 0 ∷ 0 ∷ []
+  pub values : (length vs ≡ 2 → ⊥) → vs′ ≡ vs

@@ -49,7 +49,7 @@ pub extern "C" fn yavrestom_set_up_unit(unit: &mut [u32], values: &mut [u32]) ->
         return 1;
     }
     if unit.len() != 515 {
-        return 1;
+        return give(values, Answer::WrongLength);
     }
     let g = units::fresh();
     let fresh = g.unit;
@@ -180,7 +180,7 @@ pub extern "C" fn yavrestom_translate(
         return 1;
     }
     if unit.len() != 515 {
-        return 1;
+        return give(values, Answer::WrongLength);
     }
     let u = unitwords::read_unit(unit);
     let g = units::translated(u, control, frames, pages, ranges, space, page, access);

@@ -15,7 +15,7 @@ use crate::walk::joined;
 use crate::walk::over;
 use runs::Page;
 
-// Gives n pages from page a on the range bit.
+// Sets or clears the range bit of n pages from page a on.
 fn mark(part: &mut [u32], a: Page, n: u32, bit: bool)
     requires { ⌜ a .0 + n ≤ length (now part) ⌝ }
     requires { ⌜ length (now part) ≡ 1024 ⌝ }

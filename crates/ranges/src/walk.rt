@@ -56,7 +56,7 @@ fn least(a: u32, b: u32) -> u32
     b
 }
 
-// How many pages from page b on go on the run of word v before them, by words that count up from it.
+// How many pages from page b on go on the run of word v before them, by words that count up from it. The promise leaves how far.
 fn onward_from(part: &[u32], b: Page, v: u32) -> u32
     requires { ⌜ length (now part) ≡ 1024 ⌝ }
     requires { ⌜ b .0 ≤ 1024 ⌝ }

@@ -22,7 +22,7 @@ pub record Empty (ws : List ℕ) (i k : ℕ) : Type 0 where
   pub room : i + k ≤ 1024
   pub zero : (q : ℕ) → i ≤ q → q < i + k → getD ws q 0 ≡ 0
 
--- k pages from page i on have the words v + 1, v + 2, ..: they go on the run of the mapped word v
+-- k pages from page i on have the words v + 1, v + 2, ..: where v is a mapped word, they go on its run
 pub record Onward (ws : List ℕ) (i v k : ℕ) : Type 0 where
   pub room : i + k ≤ 1024
   pub frames : frameIn v + k ≤ 4095
@@ -36,7 +36,7 @@ pub data Along (ws : List ℕ) (i w : ℕ) : ℕ → ℕ → Type 0 where
 
 -- Making anew
 
--- the words of n pages from page a on have the range bit given, and every other is as it was
+-- the mapped ones of n pages from page a on have the range bit given, the unmapped ones the word 0, and every other is as it was
 pub record Marked (bit : Bool) (xs : List ℕ) (a n : ℕ) (ys : List ℕ) : Type 0 where
   pub inside : (q : ℕ) → a ≤ q → q < a + n → getD ys q 0 ≡ bitWord bit (getD xs q 0)
   pub below : (q : ℕ) → q < a → getD ys q 0 ≡ getD xs q 0
