@@ -113,7 +113,7 @@ fn takes_unit(call: Call) -> bool
     }
 }
 
-// Takes a record: a malformed one answers 16 and changes nothing. For a call that takes no unit none is copied.
+// Takes a record: a malformed one answers 16 and changes nothing. A call that takes no unit is made with none beside it.
 pub fn take(
     m: Meaning,
     p: TwoUnits,
