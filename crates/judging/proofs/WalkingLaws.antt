@@ -10,9 +10,10 @@ use borrow.Author.Tests.{not-true, eqb-true, eq-eqb}
 use Rattle.words.specs.Counts.{count, one-if}
 use Rattle.words.specs.Searches.{allFrom, every}
 use Rattle.words.specs.Tables.{part}
-use Rattle.words.specs.Writes.{countsIn, PassTo}
+use Rattle.words.specs.Writes.{countsBeside, PassTo}
 use Rattle.words.proofs.Cases.{true-false, by-test, and-true, true-and}
 use Rattle.words.proofs.SearchLaws.{at-allFrom, all-step, all-steps, every-at, at-every, every-all}
+use Rattle.words.proofs.ScanLaws.{beside-at}
 use Rattle.words.proofs.CountLaws.{count-step, one-if-le, count-ext, count-split, none-pass, all-pass}
 use Rattle.runs.specs.PageWords.{mapped, frameIn}
 use Rattle.runs.specs.Walk.{lawfulRanges}
@@ -84,21 +85,16 @@ module _ (opened : Bool) (fs : List ℕ) (F a : ℕ) (ws xs : List ℕ) where
 
 -- a stretch of pages
 
-pub onward-fewer : (ws : List ℕ) (i v k r : ℕ) → r ≤ k → Onward ws i v k → Onward ws i v r
-onward-fewer ws i v k r h o = record { room = omega (arith, o .room); frames = omega (arith, o .frames); next = λ j lt. o .next j (omega arith) }
-
-pub named-scanned : (fs : List ℕ) (F f i most r : ℕ) → f + most < F → PassTo (countsIn fs (f + 1) (i + 1)) (f + 1) (f + 1 + most) r → Named fs F f i (r - (f + 1))
-unfolding countsIn
-named-scanned fs F f i most r h x =
+-- read beside the words of their pages
+pub named-scanned : (ws : List ℕ) (a v : ℕ) (fs : List ℕ) (F f i most r : ℕ) → f + most < F → PassTo (countsBeside ws a v fs (f + 1) (i + 1)) 0 most r → Named fs F f i r
+named-scanned ws a v fs F f i most r h x =
     let to = x .to in
-    let from = x .from in
     record {
       below = λ j lt. omega arith;
       names = λ j lt.
           let place : f + 1 + j ≡ f + (j + 1) = omega arith in
-          let sum : i + 1 + (f + 1 + j - (f + 1)) ≡ i + j + 1 = omega arith in
-          let word : getD fs (f + 1 + j) 0 ≡ i + 1 + (f + 1 + j - (f + 1)) = eqb-true _ _ (x .pass (f + 1 + j) (omega arith) (omega arith)) in
-          rw place at (word ∙ sum);
+          let sum : i + 1 + j ≡ i + j + 1 = omega arith in
+          rw place at (beside-at ws a v fs (f + 1) (i + 1) j (x .pass j (omega arith) lt) .1 ∙ sum);
     }
 
 pub named-none : (fs : List ℕ) (F f i k : ℕ) → k ≡ 0 → Named fs F f i k

@@ -6,9 +6,8 @@ ghost use lib.ListN.{length};
 ghost use Rattle.words.specs.Counts.{count, one-if};
 ghost use Rattle.words.specs.Searches.{allFrom};
 ghost use Rattle.runs.specs.PageWords.{mapped, frameIn};
-ghost use Rattle.runs.specs.Steps.{Along};
+ghost use Rattle.runs.specs.Steps.{Onward, Along};
 ghost use Rattle.judging.specs.Judging.{pageMapped, pageFits, partSound, spaceSound, Named};
-use blocks::Frame;
 use pointing::page_ok;
 use ranges::lawful::next_place;
 use ranges::lawful::rest_fits;
@@ -20,7 +19,7 @@ use ranges::walk::goes_on;
 use ranges::walk::joined;
 use ranges::walk::over;
 use runs::Page;
-use words::scans::counts_to;
+use words::scans::counts_beside;
 
 // What a walk finds: whether the words are sound, and where they are, how many pages are mapped.
 pub struct Walked {
@@ -68,21 +67,26 @@ fn least(a: u32, b: u32) -> u32
     b
 }
 
-// How many of the k frames after frame f are in the pool and have words that name the places i, i + 1, ..
-fn named_after(frames: &[u32], pool: u32, f: Frame, i: u32, k: u32) -> u32
+// How many pages from page b on go on the run of the mapped word w, with frames that are in the pool and have words that name them.
+fn onward_fitting(frames: &[u32], pool: u32, first: u32, part: &[u32], b: Page, w: u32) -> u32
     requires { ⌜ length (now frames) ≡ 4096 ⌝ }
     requires { ⌜ pool ≤ 4096 ⌝ }
-    requires { ⌜ i + k ≤ 4096 ⌝ }
-    ensures { λ r. ⌜ r ≤ k ⌝ }
-    ensures { λ r. ⌜ Named (now (frames .entry)) pool (f .0) i r ⌝ }
+    requires { ⌜ first + 1024 ≤ 4096 ⌝ }
+    requires { ⌜ length (now part) ≡ 1024 ⌝ }
+    requires { ⌜ b .0 ≤ 1024 ⌝ }
+    requires { ⌜ mapped w ≡ true ⌝ }
+    ensures { λ r. ⌜ Onward (now (part .entry)) (b .0) w r ⌝ }
+    ensures { λ r. ⌜ Named (now (frames .entry)) pool (frameIn w) (first + b .0) r ⌝ }
 {
+    let f = frame_in(w);
     if pool <= f.0 {
         return 0;
     }
-    let most = least(k, pool - 1 - f.0);
-    let from = (f.0 + 1) as usize;
-    let end = counts_to(frames, from, from + (most as usize), i + 1);
-    (end - from) as u32
+    let most = least(1024 - b.0, pool - 1 - f.0);
+    let from = b.0 as usize;
+    let at = (f.0 + 1) as usize;
+    let place = first + b.0;
+    counts_beside(part, from, w + 1, frames, at, place + 1, most as usize) as u32
 }
 
 // The pages from page b on, after word w, that fit at once: unmapped ones, or those that go on the run of w and whose frames name them.
@@ -96,12 +100,10 @@ fn over_fitting(frames: &[u32], pool: u32, first: u32, part: &[u32], b: Page, w:
     ensures { λ r. ⌜ r .last ≡ w + r .mapped ⌝ }
     ensures { λ r. ⌜ Named (now (frames .entry)) pool (frameIn w) (first + b .0) (r .mapped) ⌝ }
 {
-    let far = over(part, b, w);
-    if far.mapped == 0 {
-        return far;
+    if !mapped(w) {
+        return over(part, b, w);
     }
-    let place = first + b.0;
-    let pages = named_after(frames, pool, frame_in(w), place, far.mapped);
+    let pages = onward_fitting(frames, pool, first, part, b, w);
     Stretch {
         pages,
         mapped: pages,

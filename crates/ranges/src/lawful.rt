@@ -12,7 +12,7 @@ use crate::page_words::offset;
 use crate::page_words::range_bit;
 use crate::page_words::rights_in;
 use runs::Page;
-use words::scans::all_same;
+use words::scans::all_zero;
 
 // Whether the entry at place `at` is that of the run of n pages that ends before page b, at word v.
 fn entry_is(ranges: &[u32], at: usize, b: Page, n: u32, v: u32) -> bool
@@ -102,7 +102,7 @@ fn zeros_from(ranges: &[u32], at: usize) -> bool
     requires { ⌜ at ≤ length (now ranges) ⌝ }
     ensures { λ r. ⌜ Decides r (now (ranges .entry) ≡ zeroFrom (now (ranges .entry)) at) ⌝ }
 {
-    all_same(ranges, at, ranges.len(), 0)
+    all_zero(ranges, at, ranges.len())
 }
 
 // Whether the last run fits at its end, page 1,024, and the range words after its entry are zero.

@@ -10,8 +10,8 @@ use crate::page_words::frame_in;
 use crate::page_words::mapped;
 use crate::page_words::rights_in;
 use runs::Page;
-use words::scans::counts_to;
-use words::scans::same_to;
+use words::scans::counts_beside;
+use words::scans::zero_to;
 
 // Whether w goes on the run of v.
 pub fn joined(v: u32, w: u32) -> bool
@@ -57,6 +57,7 @@ fn least(a: u32, b: u32) -> u32
 }
 
 // How many pages from page b on go on the run of word v before them, by words that count up from it. The promise leaves how far.
+// The scan reads two stretches side by side, for the check of the tables; here both are the same.
 fn onward_from(part: &[u32], b: Page, v: u32) -> u32
     requires { ⌜ length (now part) ≡ 1024 ⌝ }
     requires { ⌜ b .0 ≤ 1024 ⌝ }
@@ -66,8 +67,7 @@ fn onward_from(part: &[u32], b: Page, v: u32) -> u32
     let f = frame_in(v);
     let from = b.0 as usize;
     let most = least(1024 - b.0, 4095 - f.0);
-    let end = counts_to(part, from, from + (most as usize), v + 1);
-    (end - from) as u32
+    counts_beside(part, from, v + 1, part, from, v + 1, most as usize) as u32
 }
 
 // A stretch of pages that a walk passes at once, how many of them are mapped, all or none, and the word before its end.
@@ -97,7 +97,7 @@ fn over_empty(part: &[u32], b: Page) -> Stretch
     ensures { λ r. ⌜ (r .mapped ≡ 0) × (r .last ≡ 0) ⌝ }
 {
     let from = b.0 as usize;
-    let end = same_to(part, from, 1024, 0);
+    let end = zero_to(part, from, 1024);
     Stretch {
         pages: (end - from) as u32,
         mapped: 0,

@@ -12,8 +12,9 @@ use lib.ListN.{length, getD, drop, take, replicate, length-append}
 use lib.Seq.{length-take-le}
 use borrow.Author.Tests.{eqb-true}
 use Rattle.words.specs.Counts.{one-if}
-use Rattle.words.specs.Writes.{sameIn, countsIn, PassTo}
+use Rattle.words.specs.Writes.{sameIn, countsBeside, PassTo}
 use Rattle.words.proofs.Cases.{by-dec, true-false}
+use Rattle.words.proofs.ScanLaws.{beside-at}
 use Rattle.runs.specs.PageWords.{mapped, frameIn}
 use Rattle.runs.specs.Walk.{joins, goesOn, wordBefore, runBefore, bitWord, ended, entriesFrom, entries, rangeWords}
 use Rattle.runs.specs.Steps.{zeroFrom, Empty, Onward, Along, nowhere, empty, onward}
@@ -153,17 +154,16 @@ pub empty-scanned : (ws : List ℕ) (i r : ℕ) → PassTo (sameIn ws 0) i 1024 
 unfolding sameIn
 empty-scanned ws i r x = record { room = omega (arith, x .from, x .to); zero = λ q lo hi. eqb-true _ _ (x .pass q lo (omega arith)) }
 
-pub onward-scanned : (ws : List ℕ) (i v most r : ℕ) → i ≤ 1024 → most ≤ 1024 - i → most ≤ 4095 - frameIn v → PassTo (countsIn ws i (v + 1)) i (i + most) r → Onward ws i v (r - i)
-unfolding countsIn
-onward-scanned ws i v most r h room low x =
+-- read beside any other words
+pub onward-scanned : (ws bs : List ℕ) (i v j u most r : ℕ) → i ≤ 1024 → most ≤ 1024 - i → most ≤ 4095 - frameIn v → PassTo (countsBeside ws i (v + 1) bs j u) 0 most r → Onward ws i v r
+onward-scanned ws bs i v j u most r h room low x =
     let to = x .to in
-    let from = x .from in
     record {
       room = omega arith;
       frames = omega (arith, frame-lt v);
-      next = λ j lt.
-          let sum : v + 1 + (i + j - i) ≡ v + (j + 1) = omega arith in
-          eqb-true _ _ (x .pass (i + j) (omega arith) (omega arith)) ∙ sum;
+      next = λ k lt.
+          let sum : v + 1 + k ≡ v + (k + 1) = omega arith in
+          beside-at ws i (v + 1) bs j u k (x .pass k (omega arith) lt) .0 ∙ sum;
     }
 
 pub along-nowhere : (ws : List ℕ) (i w p m : ℕ) → p ≡ 0 → m ≡ 0 → Along ws i w p m
@@ -178,11 +178,11 @@ along-room ws i w p m h nowhere = (omega arith, zero-le)
 along-room ws i w p m h (empty z e) = (e .room, zero-le)
 along-room ws i w p m h (onward t o) = (o .room, omega arith)
 
--- where some of it is mapped, it goes on the run
-pub along-run : (ws : List ℕ) (i w p m : ℕ) → Along ws i w p m → (m ≡ 0 → ⊥) → (mapped w ≡ true) × Onward ws i w m
-along-run ws i w p m nowhere n = absurd (n refl)
-along-run ws i w p m (empty z e) n = absurd (n refl)
-along-run ws i w p m (onward t o) n = (t, o)
+-- after an unmapped word none of it is mapped
+pub along-none : (ws : List ℕ) (i w p m : ℕ) → Along ws i w p m → mapped w ≡ false → m ≡ 0
+along-none ws i w p m nowhere f = refl
+along-none ws i w p m (empty z e) f = refl
+along-none ws i w p m (onward t o) f = true-false (mapped w) t f
 
 -- no run goes before a word 0
 pub run-none : (ws rs : List ℕ) (i n v at : ℕ) → Walked ws rs i n v at → v ≡ 0 → n ≡ 0

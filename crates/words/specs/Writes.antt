@@ -1,6 +1,6 @@
 -- Runs of words of a list, said of single words.
 use mathlib.Core.Path.{_≡_}
-use mathlib.Core.Bool.{Bool, true}
+use mathlib.Core.Bool.{Bool, true, _&&_}
 use mathlib.Core.List.{List}
 use Prim.Native.Nat.{ℕ, _+_, _-_, _<_, _≤_}
 use lib.Dec.{eqb}
@@ -13,6 +13,10 @@ sameIn b v g = eqb (getD b g 0) v
 -- the word at g is v + (g - s)
 unfoldable pub countsIn : List ℕ → ℕ → ℕ → ℕ → Bool
 countsIn b s v g = eqb (getD b g 0) (v + (g - s))
+
+-- at step t, the word of a after place i is v + t, and that of b after place j is u + t
+unfoldable pub countsBeside : List ℕ → ℕ → ℕ → List ℕ → ℕ → ℕ → ℕ → Bool
+countsBeside a i v b j u t = eqb (getD a (i + t) 0) (v + t) && eqb (getD b (j + t) 0) (u + t)
 
 -- s, s + 1, .. up to r, r left out and at most e, pass
 pub record PassTo (p : ℕ → Bool) (s e r : ℕ) : Type 0 where

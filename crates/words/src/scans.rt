@@ -1,61 +1,58 @@
-// Scans of lent words. A chunk of sixteen is counted without a branch, so that the compiler reads several words at a time.
+// Scans of lent words. What differs in a chunk is gathered without a branch, so that the compiler reads several words at a time.
 ghost use mathlib.Core.Path.{_≡_};
-ghost use mathlib.Core.Bool.{false};
+ghost use mathlib.Core.Bool.{false, _&&_};
 ghost use Prim.Native.Nat.{_+_, _-_, _≤_};
 ghost use lib.ListN.{length};
 ghost use lib.Dec.{eqb};
-ghost use Rattle.words.specs.Counts.{one-if};
 ghost use Rattle.words.specs.Searches.{allFrom};
-ghost use Rattle.words.specs.Writes.{sameIn, countsIn, PassTo};
+ghost use Rattle.words.specs.Writes.{sameIn, countsIn, countsBeside, PassTo};
 
-fn one_if_same(w: u32, v: u32) -> u32
-    ensures { λ r. ⌜ r ≡ one-if (eqb w v) ⌝ }
-    ensures { λ r. ⌜ r ≤ 1 ⌝ }
+// The bits of d, and those in which w differs from v.
+fn differing(d: u32, w: u32, v: u32) -> u32
+    ensures { λ r. ⌜ eqb r 0 ≡ (eqb d 0 && eqb w v) ⌝ }
 {
-    if w == v {
-        return 1;
-    }
-    0
+    d | (w ^ v)
 }
 
-// Whether the sixteen words from `at` on are all v.
-fn chunk_same(words: &[u32], at: usize, v: u32) -> bool
-    requires { ⌜ at + 16 ≤ length (now words) ⌝ }
-    ensures { λ r. ⌜ r ≡ allFrom 16 at (sameIn (now (words .entry)) v) ⌝ }
+// Whether the n words from `at` on are all v.
+fn chunk_same(words: &[u32], at: usize, n: usize, v: u32) -> bool
+    requires { ⌜ at + n ≤ length (now words) ⌝ }
+    ensures { λ r. ⌜ r ≡ allFrom n at (sameIn (now (words .entry)) v) ⌝ }
 {
-    let mut n: u32 = 0;
+    let mut d: u32 = 0;
     let mut j: usize = 0;
-    while j < 16 {
-        n += one_if_same(words[at + j], v);
+    while j < n {
+        d = differing(d, words[at + j], v);
         j += 1;
     }
-    n == 16
+    d == 0
 }
 
-// A place up to which the words from `from` on are all v, chunk after chunk.
-fn same_chunks(words: &[u32], from: usize, end: usize, v: u32) -> usize
+// A place up to which the words from `from` on are all v, by chunks of n words.
+fn same_chunks(words: &[u32], from: usize, end: usize, n: usize, v: u32) -> usize
     requires { ⌜ end ≤ length (now words) ⌝ }
     requires { ⌜ from ≤ end ⌝ }
+    requires { ⌜ 1 ≤ n ⌝ }
     ensures { λ r. ⌜ PassTo (sameIn (now (words .entry)) v) from end r ⌝ }
 {
     let mut g = from;
-    while 16 <= end - g {
-        if !chunk_same(words, g, v) {
+    while n <= end - g {
+        if !chunk_same(words, g, n, v) {
             return g;
         }
-        g += 16;
+        g += n;
     }
     g
 }
 
-// The first place from `from` on, and before `end`, whose word is not v, or else `end`.
-pub fn same_to(words: &[u32], from: usize, end: usize, v: u32) -> usize
+// The first place from `from` on, and before `end`, whose word is not v, or else `end`, word after word.
+fn same_words(words: &[u32], from: usize, end: usize, v: u32) -> usize
     requires { ⌜ end ≤ length (now words) ⌝ }
     requires { ⌜ from ≤ end ⌝ }
     ensures { λ r. ⌜ PassTo (sameIn (now (words .entry)) v) from end r ⌝ }
     ensures { λ r. ⌜ ((r ≡ end → ⊥) → sameIn (now (words .entry)) v r ≡ false) ⌝ }
 {
-    let mut g = same_chunks(words, from, end, v);
+    let mut g = from;
     while g < end {
         if words[g] != v {
             return g;
@@ -65,13 +62,37 @@ pub fn same_to(words: &[u32], from: usize, end: usize, v: u32) -> usize
     g
 }
 
+// The first place from `from` on, and before `end`, whose word is not 0, or else `end`. The value is written out here, so that the compiler need not compare with it.
+pub fn zero_to(words: &[u32], from: usize, end: usize) -> usize
+    requires { ⌜ end ≤ length (now words) ⌝ }
+    requires { ⌜ from ≤ end ⌝ }
+    ensures { λ r. ⌜ PassTo (sameIn (now (words .entry)) 0) from end r ⌝ }
+    ensures { λ r. ⌜ ((r ≡ end → ⊥) → sameIn (now (words .entry)) 0 r ≡ false) ⌝ }
+{
+    let far = same_chunks(words, from, end, 64, 0);
+    let near = same_chunks(words, far, end, 16, 0);
+    same_words(words, near, end, 0)
+}
+
+// Whether the words from `from` up to `end` are all 0.
+pub fn all_zero(words: &[u32], from: usize, end: usize) -> bool
+    requires { ⌜ end ≤ length (now words) ⌝ }
+    requires { ⌜ from ≤ end ⌝ }
+    ensures { λ r. ⌜ r ≡ allFrom (end - from) from (sameIn (now (words .entry)) 0) ⌝ }
+{
+    let last = zero_to(words, from, end);
+    last == end
+}
+
 // Whether the words from `from` up to `end` are all v.
 pub fn all_same(words: &[u32], from: usize, end: usize, v: u32) -> bool
     requires { ⌜ end ≤ length (now words) ⌝ }
     requires { ⌜ from ≤ end ⌝ }
     ensures { λ r. ⌜ r ≡ allFrom (end - from) from (sameIn (now (words .entry)) v) ⌝ }
 {
-    let last = same_to(words, from, end, v);
+    let far = same_chunks(words, from, end, 64, v);
+    let near = same_chunks(words, far, end, 16, v);
+    let last = same_words(words, near, end, v);
     last == end
 }
 
@@ -81,46 +102,86 @@ fn chunk_counts(words: &[u32], at: usize, v: u32) -> bool
     requires { ⌜ v + 16 ≤ 4294967296 ⌝ }
     ensures { λ r. ⌜ r ≡ allFrom 16 at (countsIn (now (words .entry)) at v) ⌝ }
 {
-    let mut n: u32 = 0;
+    let mut d: u32 = 0;
     let mut j: usize = 0;
     while j < 16 {
-        n += one_if_same(words[at + j], v + (j as u32));
+        d = differing(d, words[at + j], v + (j as u32));
         j += 1;
     }
-    n == 16
+    d == 0
 }
 
-// A place up to which the words from `from` on are v, v + 1, .., chunk after chunk.
-fn counts_chunks(words: &[u32], from: usize, end: usize, v: u32) -> usize
-    requires { ⌜ end ≤ length (now words) ⌝ }
-    requires { ⌜ from ≤ end ⌝ }
-    requires { ⌜ v + (end - from) ≤ 4294967296 ⌝ }
-    ensures { λ r. ⌜ PassTo (countsIn (now (words .entry)) from v) from end r ⌝ }
+// How far, from step `from` on and up to n, the words of a after place i and those of b after place j count up from v and u, chunk after chunk.
+fn beside_chunks(
+    a: &[u32],
+    i: usize,
+    v: u32,
+    b: &[u32],
+    j: usize,
+    u: u32,
+    from: usize,
+    n: usize,
+) -> usize
+    requires { ⌜ from ≤ n ⌝ }
+    requires { ⌜ (i + n ≤ length (now a)) × (v + n ≤ 4294967296) ⌝ }
+    requires { ⌜ (j + n ≤ length (now b)) × (u + n ≤ 4294967296) ⌝ }
+    ensures { λ r. ⌜ PassTo (countsBeside (now (a .entry)) i v (now (b .entry)) j u) from n r ⌝ }
 {
-    let mut g = from;
-    while 16 <= end - g {
-        if !chunk_counts(words, g, v + ((g - from) as u32)) {
-            return g;
+    let mut k = from;
+    while 16 <= n - k {
+        if !chunk_counts(a, i + k, v + (k as u32)) {
+            return k;
         }
-        g += 16;
+        if !chunk_counts(b, j + k, u + (k as u32)) {
+            return k;
+        }
+        k += 16;
     }
-    g
+    k
 }
 
-// The first place from `from` on, and before `end`, whose word is not that of v, v + 1, .., or else `end`.
-pub fn counts_to(words: &[u32], from: usize, end: usize, v: u32) -> usize
-    requires { ⌜ end ≤ length (now words) ⌝ }
-    requires { ⌜ from ≤ end ⌝ }
-    requires { ⌜ v + (end - from) ≤ 4294967296 ⌝ }
-    ensures { λ r. ⌜ PassTo (countsIn (now (words .entry)) from v) from end r ⌝ }
-    ensures { λ r. ⌜ ((r ≡ end → ⊥) → countsIn (now (words .entry)) from v r ≡ false) ⌝ }
+// The same, word after word.
+fn beside_words(
+    a: &[u32],
+    i: usize,
+    v: u32,
+    b: &[u32],
+    j: usize,
+    u: u32,
+    from: usize,
+    n: usize,
+) -> usize
+    requires { ⌜ from ≤ n ⌝ }
+    requires { ⌜ (i + n ≤ length (now a)) × (v + n ≤ 4294967296) ⌝ }
+    requires { ⌜ (j + n ≤ length (now b)) × (u + n ≤ 4294967296) ⌝ }
+    ensures { λ r. ⌜ PassTo (countsBeside (now (a .entry)) i v (now (b .entry)) j u) from n r ⌝ }
 {
-    let mut g = counts_chunks(words, from, end, v);
-    while g < end {
-        if words[g] != v + ((g - from) as u32) {
-            return g;
+    let mut k = from;
+    while k < n {
+        if a[i + k] != v + (k as u32) {
+            return k;
         }
-        g += 1;
+        if b[j + k] != u + (k as u32) {
+            return k;
+        }
+        k += 1;
     }
-    g
+    k
+}
+
+// A number of steps, up to n, that the words of a from place i on and those of b from place j on count up from v and u. Most runs are short: the first eight steps go word after word.
+pub fn counts_beside(a: &[u32], i: usize, v: u32, b: &[u32], j: usize, u: u32, n: usize) -> usize
+    requires { ⌜ (i + n ≤ length (now a)) × (v + n ≤ 4294967296) ⌝ }
+    requires { ⌜ (j + n ≤ length (now b)) × (u + n ≤ 4294967296) ⌝ }
+    ensures { λ r. ⌜ PassTo (countsBeside (now (a .entry)) i v (now (b .entry)) j u) 0 n r ⌝ }
+{
+    if n < 8 {
+        return beside_words(a, i, v, b, j, u, 0, n);
+    }
+    let near = beside_words(a, i, v, b, j, u, 0, 8);
+    if near < 8 {
+        return near;
+    }
+    let far = beside_chunks(a, i, v, b, j, u, near, n);
+    beside_words(a, i, v, b, j, u, far, n)
 }

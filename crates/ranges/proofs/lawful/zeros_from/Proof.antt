@@ -1,19 +1,19 @@
-use native.Mathlib.Omega.{arith}
 use Rattle.runs.proofs.CheckLaws.{zeros-all}
+use native.Mathlib.Omega.{arith}
 use borrow.Author.Needs.{needs}
 use Rattle.ranges.proofs.lawful.zeros_from.Statement.{statement}
 use Rattle.ranges.proofs.lawful.zeros_from.Tie as tie
 use Rattle.ranges.proofs.lawful.zeros_from.Reads as reads
 use Rattle.ranges.proofs.lawful.zeros_from.Lts as lts
-use Rattle.words.proofs.scans.all_same.Reads as all-same-reads
+use Rattle.words.proofs.scans.all_zero.Reads as all-zero-reads
 
 -- src/lawful.rt:105:5
-all-same-requires : tie.Need-all-same-requires
-all-same-requires c κs = search needs
+all-zero-requires : tie.Need-all-zero-requires
+all-zero-requires c κs = search needs
 
 -- src/lawful.rt:101:1
 returns : tie.Need-returns
-returns c = zeros-all _ _ _ (omega arith) (c .all-same .ensures)
+returns c = zeros-all _ _ _ (omega arith) (c .all-zero .ensures)
 
 pub zeros-from-spec : {M : Type 1} → statement M
-zeros-from-spec = tie.close (tie.spec all-same-requires returns)
+zeros-from-spec = tie.close (tie.spec all-zero-requires returns)

@@ -1,6 +1,6 @@
-use native.Mathlib.Omega.{arith}
-use Rattle.runs.proofs.WordLaws.{mapped-lt, frame-lt}
 use Rattle.runs.proofs.StepLaws.{onward-scanned}
+use Rattle.runs.proofs.WordLaws.{mapped-lt, frame-lt}
+use native.Mathlib.Omega.{arith}
 use borrow.Author.Needs.{needs}
 use Rattle.ranges.proofs.walk.onward_from.Statement.{statement}
 use Rattle.ranges.proofs.walk.onward_from.Tie as tie
@@ -8,55 +8,51 @@ use Rattle.ranges.proofs.walk.onward_from.Reads as reads
 use Rattle.ranges.proofs.walk.onward_from.Lts as lts
 use Rattle.ranges.proofs.page_words.frame_in.Reads as frame-in-reads
 use Rattle.ranges.proofs.walk.least.Reads as least-reads
-use Rattle.words.proofs.scans.counts_to.Reads as counts-to-reads
+use Rattle.words.proofs.scans.counts_beside.Reads as counts-beside-reads
 
--- src/walk.rt:77:9
+-- src/walk.rt:67:9
 frame-in-requires : tie.Need-frame-in-requires
 frame-in-requires c κs = search needs
 
--- src/walk.rt:78:16
+-- src/walk.rt:68:16
 cast-from : tie.Need-cast-from
 cast-from c = search needs
 
--- src/walk.rt:79:22
+-- src/walk.rt:69:22
 sub-least : tie.Need-sub-least
 sub-least c = search needs
 
--- src/walk.rt:79:34
+-- src/walk.rt:69:34
 sub-least-2 : tie.Need-sub-least-2
 sub-least-2 c = omega (arith, c .before .before .before .frame-in .ensures, frame-lt (c .before .before .before .before .before .args .v))
 
--- src/walk.rt:79:9
+-- src/walk.rt:69:9
 least-requires : tie.Need-least-requires
 least-requires c κs = search needs
 
--- src/walk.rt:80:45
-cast-counts-to : tie.Need-cast-counts-to
-cast-counts-to c = search needs
+-- src/walk.rt:70:31
+add-counts-beside : tie.Need-add-counts-beside
+add-counts-beside c = omega (arith, mapped-lt _ (c .before .before .before .before .before .before .pre .1 .1))
 
--- src/walk.rt:80:37
-add-counts-to : tie.Need-add-counts-to
-add-counts-to c = search needs
+-- src/walk.rt:70:50
+add-counts-beside-2 : tie.Need-add-counts-beside-2
+add-counts-beside-2 c = omega (arith, mapped-lt _ (c .before .before .before .before .before .before .pre .1 .1))
 
--- src/walk.rt:80:61
-add-counts-to-2 : tie.Need-add-counts-to-2
-add-counts-to-2 c = omega (arith, mapped-lt _ (c .before .before .before .before .before .before .pre .1 .1))
+-- src/walk.rt:70:57
+cast-counts-beside : tie.Need-cast-counts-beside
+cast-counts-beside c = search needs
 
--- src/walk.rt:80:9
-counts-to-requires : tie.Need-counts-to-requires
-counts-to-requires c κs = (omega arith, (omega arith, omega (arith, mapped-lt _ (c .before .before .before .before .before .before .pre .1 .1))))
+-- src/walk.rt:70:5
+counts-beside-requires : tie.Need-counts-beside-requires
+counts-beside-requires c κs = let low = mapped-lt _ (c .before .before .before .before .before .before .pre .1 .1) in ((omega arith, omega arith), (omega arith, omega arith))
 
--- src/walk.rt:81:6
-sub-result : tie.Need-sub-result
-sub-result c = search needs
-
--- src/walk.rt:81:5
+-- src/walk.rt:70:5
 cast-result : tie.Need-cast-result
 cast-result c = search needs
 
--- src/walk.rt:71:1
+-- src/walk.rt:61:1
 returns : tie.Need-returns
-returns c = onward-scanned _ _ _ _ _ (omega arith) (c .before .least .ensures .0) (omega (arith, c .before .least .ensures .1, c .before .before .before .before .before .frame-in .ensures)) (c .counts-to .ensures .0)
+returns c = onward-scanned _ _ _ _ _ _ _ _ (omega arith) (c .before .least .ensures .0) (omega (arith, c .before .least .ensures .1, c .before .before .before .before .before .frame-in .ensures)) (c .counts-beside .ensures)
 
 pub onward-from-spec : {M : Type 1} → statement M
 onward-from-spec =
@@ -67,10 +63,9 @@ onward-from-spec =
     sub-least
     sub-least-2
     least-requires
-    cast-counts-to
-    add-counts-to
-    add-counts-to-2
-    counts-to-requires
-    sub-result
+    add-counts-beside
+    add-counts-beside-2
+    cast-counts-beside
+    counts-beside-requires
     cast-result
     returns)

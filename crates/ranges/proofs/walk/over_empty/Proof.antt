@@ -1,19 +1,19 @@
-use mathlib.Core.Path.{refl}
 use Rattle.runs.proofs.StepLaws.{empty-scanned}
+use mathlib.Core.Path.{refl}
 use borrow.Author.Needs.{needs}
 use Rattle.ranges.proofs.walk.over_empty.Statement.{statement}
 use Rattle.ranges.proofs.walk.over_empty.Tie as tie
 use Rattle.ranges.proofs.walk.over_empty.Reads as reads
 use Rattle.ranges.proofs.walk.over_empty.Lts as lts
-use Rattle.words.proofs.scans.same_to.Reads as same-to-reads
+use Rattle.words.proofs.scans.zero_to.Reads as zero-to-reads
 
 -- src/walk.rt:99:16
 cast-from : tie.Need-cast-from
 cast-from c = search needs
 
 -- src/walk.rt:100:9
-same-to-requires : tie.Need-same-to-requires
-same-to-requires c κs = search needs
+zero-to-requires : tie.Need-zero-to-requires
+zero-to-requires c κs = search needs
 
 -- src/walk.rt:102:17
 sub-t5 : tie.Need-sub-t5
@@ -25,7 +25,7 @@ cast-t6 c = search needs
 
 -- src/walk.rt:93:1
 returns : tie.Need-returns
-returns c = (empty-scanned _ _ _ (c .same-to .ensures .0), (refl, refl))
+returns c = (empty-scanned _ _ _ (c .zero-to .ensures .0), (refl, refl))
 
 pub over-empty-spec : {M : Type 1} → statement M
-over-empty-spec = tie.close (tie.spec cast-from same-to-requires sub-t5 cast-t6 returns)
+over-empty-spec = tie.close (tie.spec cast-from zero-to-requires sub-t5 cast-t6 returns)
