@@ -110,11 +110,11 @@ cleared-more b o n m w b′ h we c =
       above = λ g le. getD-set-other b′ m g w 0 (λ x. omega arith) ∙ c .above g (omega arith);
     }
 
-pub released : (F : ℕ) (b : List ℕ) (o n : ℕ) (b1 b2 : List ℕ) → F ≤ 4096 → 1 ≤ o → o + n ≤ 4097 → ClearedTo b o n 4096 b1 → b2 ≡ frameWords F (ownersOf b1)
+pub released : (F : ℕ) (b : List ℕ) (o n : ℕ) (b1 b2 : List ℕ) → 1 ≤ o → o + n ≤ 4097 → ClearedTo b o n F b1 → b2 ≡ frameWords F (ownersOf b1)
     → b2 ≡ frameWords F (freed (ownersOf b) o n)
 unfolding freed ownersOf
-released F b o n b1 b2 small pos room c e =
-    e ∙ words-ext F (ownersOf b1) (freed (ownersOf b) o n) (λ g h. ap ownerOf (c .below g (omega arith)) ∙ clear-owner o n (getD b g 0) pos room)
+released F b o n b1 b2 pos room c e =
+    e ∙ words-ext F (ownersOf b1) (freed (ownersOf b) o n) (λ g h. ap ownerOf (c .below g h) ∙ clear-owner o n (getD b g 0) pos room)
 
 -- who owns what after frames are given
 

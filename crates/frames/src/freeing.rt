@@ -110,12 +110,15 @@ fn cleared(w: u32, owner: u32, n: u32) -> u32
     w
 }
 
-fn clear(frames: &mut [u32], owner: u32, n: u32)
+// Only words below the pool size: settling sets the others, whatever they say.
+fn clear(frames: &mut [u32], pool: u32, owner: u32, n: u32)
     requires { ⌜ length (now frames) ≡ 4096 ⌝ }
-    ensures { λ _. ⌜ ClearedTo (now (frames .entry)) owner n 4096 (now (frames .exit)) ⌝ }
+    requires { ⌜ pool ≤ 4096 ⌝ }
+    ensures { λ _. ⌜ ClearedTo (now (frames .entry)) owner n pool (now (frames .exit)) ⌝ }
 {
-    let mut g: usize = 0;
-    while g < 4096 {
+    let end = pool as usize;
+    let mut g = 0;
+    while g < end {
         let w = cleared(frames[g], owner, n);
         frames[g] = w;
         g += 1;
@@ -130,6 +133,6 @@ pub fn release(frames: &mut [u32], pool: u32, owner: u32, n: u32)
     requires { ⌜ owner + n ≤ 4097 ⌝ }
     ensures { λ _. ⌜ now (frames .exit) ≡ frameWords pool (freed (ownersOf (now (frames .entry))) owner n) ⌝ }
 {
-    clear(frames, owner, n);
+    clear(frames, pool, owner, n);
     settle(frames, pool);
 }

@@ -9,14 +9,14 @@ use Rattle.blocks.specs.Passes.{ClearedTo}
 use Rattle.blocks.proofs.FreeLaws.{cleared-none, cleared-more}
 
 abbrev Inv-loop : tie.InvT-loop
-Inv-loop frames₀ owner n g₀ frames g = (g ≤ 4096) × ((length frames ≡ length frames₀) × ClearedTo frames₀ owner n g frames)
+Inv-loop frames₀ pool owner n end g₀ frames g = (end ≡ pool) × ((g ≤ end) × ((length frames ≡ length frames₀) × ClearedTo frames₀ owner n g frames))
 
 abbrev μ-loop : tie.MeasureT-loop
-μ-loop frames₀ owner n g₀ frames g = 4096 - g
+μ-loop frames₀ pool owner n end g₀ frames g = end - g
 
 -- src/freeing.rt:126:5
 loop-holds : tie.Need-loop-holds Inv-loop μ-loop
-loop-holds c = (omega arith, (refl, cleared-none _ _ _))
+loop-holds c = (refl, (omega arith, (refl, cleared-none _ _ _)))
 
 -- src/freeing.rt:127:25
 mul-cleared : tie.Need-mul-cleared Inv-loop μ-loop
@@ -48,7 +48,7 @@ loop-less c = search needs
 
 -- src/freeing.rt:126:5
 loop-again : tie.Need-loop-again Inv-loop μ-loop
-loop-again c = (omega arith, (simp length-set (omega arith), cleared-more _ _ _ _ _ _ (omega arith) (c .cleared .ensures) (c .before .before .before .loop .inv .1 .1)))
+loop-again c = (c .before .before .before .loop .inv .0, (omega arith, (simp length-set (omega arith), cleared-more _ _ _ _ _ _ (omega arith) (c .cleared .ensures) (c .before .before .before .loop .inv .1 .1 .1))))
 
 -- src/freeing.rt:121:1
 same-length : tie.Need-same-length Inv-loop μ-loop
@@ -56,7 +56,7 @@ same-length c = search needs
 
 -- src/freeing.rt:121:1
 returns : tie.Need-returns Inv-loop μ-loop
-returns c = let e : c .before .loop .g ≡ 4096 = omega arith in rw (← e) (c .before .loop .inv .1 .1)
+returns c = let e : c .before .loop .g ≡ c .before .before .before .args .pool = omega arith in rw (← e) (c .before .loop .inv .1 .1 .1)
 
 pub clear-spec : {M : Type 1} → statement M
 clear-spec =

@@ -18,7 +18,7 @@ same-length c = search needs
 
 -- src/freeing.rt:134:1
 returns : tie.Need-returns
-returns c = released _ _ _ _ _ _ (c .before .before .before .before .before .before .before .before .before .pre .1 .0) (c .before .before .before .before .before .before .before .before .before .pre .1 .1 .0) (c .before .before .before .before .before .before .before .before .before .pre .1 .1 .1) (c .before .before .before .before .before .before .clear .ensures) (c .before .before .settle .ensures)
+returns c = released _ _ _ _ _ _ (c .before .before .before .before .before .before .before .before .before .pre .1 .1 .0) (c .before .before .before .before .before .before .before .before .before .pre .1 .1 .1) (c .before .before .before .before .before .before .clear .ensures) (c .before .before .settle .ensures)
 
 pub release-spec : {M : Type 1} → statement M
 release-spec = tie.close (tie.spec clear-requires settle-requires same-length returns)
