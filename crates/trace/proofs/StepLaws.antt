@@ -1,6 +1,6 @@
 -- What a record does, from the parts of the step.
 use mathlib.Core.Path.{_≡_, refl, ap, sym, subst, _∙_}
-use mathlib.Core.Bool.{Bool, true, false, _&&_}
+use mathlib.Core.Bool.{Bool, true, false, _&&_, cond}
 use Prim.Native.Nat.{ℕ}
 use lib.Dec.{eqb}
 use borrow.Author.Tests.{eq-eqb, ne-eqb}
@@ -16,7 +16,7 @@ use Rattle.trace.specs.declared.Meaning.{Meaning}
 use Rattle.trace.specs.declared.Meaning.the-variants.{Malformed, Asked}
 use Rattle.trace.specs.declared.TwoUnits.{TwoUnits}
 use Rattle.trace.specs.declared.Step.{Step}
-use Rattle.trace.specs.Steps.{freshUnits, unitAt, withUnit, renewed, answered, Taken, skipped, made}
+use Rattle.trace.specs.Steps.{freshUnits, unitAt, withUnit, renewed, answered, Taken, skipped, made, needsUnit, TakenBeside}
 use Rattle.units.specs.declared.Translation.{Translation}
 use Rattle.units.specs.Translation.{freshly}
 use Rattle.units.specs.Performing.{OnTables}
@@ -44,18 +44,29 @@ module _ (T T′ : Tables) (p : TwoUnits) (k n : ℕ) (c : Call) (v : TlbUnit) (
   pub makes-on : v ≡ unitAt p n → Does T v (t .answer) c T′ (t .unit) → o ≡ outcome (t .answer) → q ≡ renewed k (t .answer) (withUnit p n (t .unit)) → Taken T p (Asked k n c) (record { kind = k; outcome = o; units = q }) T′
   makes-on e does eo eq = makes T T′ p k n c v t (record { kind = k; outcome = o; units = q }) e does (answers k n p t o q eo eq)
 
--- a call beside the units
+-- a record taken beside the units
 
 same-units : (p : TwoUnits) (n : ℕ) → withUnit p n (unitAt p n) ≡ p
 unfolding withUnit unitAt
 same-units p n = by-test (eqb n 0) (λ t. rw t) (λ f. rw f)
 
-module _ (T T′ : Tables) (p : TwoUnits) (k n : ℕ) (c : Call) (a : Answer) (o : Outcome) (q : TwoUnits) where
-  pub makes-beside : takesUnit c ≡ false → OnTables T a c T′ → o ≡ outcome a → q ≡ renewed k a p → Taken T p (Asked k n c) (record { kind = k; outcome = o; units = q }) T′
-  makes-beside f on eo eq =
-      let t : Translation = record { unit = unitAt p n; answer = a } in
-      let e : q ≡ renewed k a (withUnit p n (unitAt p n)) = eq ∙ ap (renewed k a) (sym (same-units p n)) in
-      makes-on T T′ p k n c (unitAt p n) t o q refl (on .does f (unitAt p n)) eo e
+module _ (T : Tables) (m : Meaning) (k : ℕ) where
+  pub skips-beside : (o : Outcome) → m ≡ Malformed k → o ≡ refusal 16 → TakenBeside T m (record { kind = k; outcome = o; renews = false }) T
+  skips-beside o e f = record { taken = λ p. skips T p m k o e f }
+
+  module _ (T′ : Tables) (n : ℕ) (c : Call) (e : m ≡ Asked k n c) where
+    no-unit : needsUnit m ≡ false → takesUnit c ≡ false
+    unfolding needsUnit
+    no-unit f = sym (ap needsUnit e) ∙ f
+
+    pub makes-beside : needsUnit m ≡ false → (a : Answer) (o : Outcome) (b : Bool) → OnTables T a c T′ → o ≡ outcome a → b ≡ (eqb k 1 && accepted a) → TakenBeside T m (record { kind = k; outcome = o; renews = b }) T′
+    unfolding renewed
+    makes-beside f a o b on eo eb = record {
+      taken = λ p.
+          let t : Translation = record { unit = unitAt p n; answer = a } in
+          let q : cond b freshUnits p ≡ renewed k a (withUnit p n (unitAt p n)) = rw (eb, same-units p n) in
+          asks T p m k n c _ T′ e (makes-on T T′ p k n c (unitAt p n) t o (cond b freshUnits p) refl (on .does (no-unit f) (unitAt p n)) eo q);
+    }
 
 pub both-fresh : (t : Translation) → t ≡ freshly → record { first = t .unit; second = t .unit } ≡ freshUnits
 unfolding freshUnits freshly

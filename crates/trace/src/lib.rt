@@ -8,7 +8,9 @@ pub use crate::records::read_record;
 pub use crate::records::word;
 pub use crate::steps::fresh_units;
 pub use crate::steps::malformed;
+pub use crate::steps::needs_unit;
 pub use crate::steps::take;
+pub use crate::steps::take_beside;
 use blocks::Outcome;
 use history::Call;
 use history::Unit;
@@ -29,4 +31,11 @@ pub struct Step {
     pub kind: u32,
     pub outcome: Outcome,
     pub units: TwoUnits,
+}
+
+// What a line shows after the number of a record that needs no unit, and whether both units are fresh afterwards.
+pub struct Shown {
+    pub kind: u32,
+    pub outcome: Outcome,
+    pub renews: bool,
 }

@@ -1,13 +1,14 @@
 // What a record does to the tables and two units.
 ghost use mathlib.Core.Path.{_≡_};
-ghost use mathlib.Core.Bool.{_&&_};
+ghost use mathlib.Core.Bool.{false, _&&_};
 ghost use lib.Dec.{eqb};
 ghost use Rattle.layout.specs.Answers.{refusal, accepted};
 ghost use Rattle.layout.specs.Tables.{tables};
 ghost use Rattle.history.specs.Lists.{takesUnit};
 ghost use Rattle.trace.specs.declared.Meaning.the-variants.{Asked};
-ghost use Rattle.trace.specs.Steps.{freshUnits, unitAt, withUnit, Taken};
+ghost use Rattle.trace.specs.Steps.{freshUnits, unitAt, withUnit, Taken, needsUnit, TakenBeside};
 use crate::Meaning;
+use crate::Shown;
 use crate::Step;
 use crate::TwoUnits;
 use blocks::Outcome;
@@ -72,7 +73,7 @@ fn renews(kind: u32, a: Answer) -> bool
     o.number == 0
 }
 
-// Makes a call that takes a unit on unit n.
+// Makes a call on unit n.
 fn on_unit(
     kind: u32,
     n: u32,
@@ -113,7 +114,17 @@ fn takes_unit(call: Call) -> bool
     }
 }
 
-// Takes a record: a malformed one answers 16 and changes nothing. A call that takes no unit is made with none beside it.
+// Whether a record asks for a call that is lent a unit; a malformed one does not.
+pub fn needs_unit(m: Meaning) -> bool
+    ensures { λ r. ⌜ r ≡ needsUnit m ⌝ }
+{
+    match m {
+        Meaning::Malformed(_) => false,
+        Meaning::Asked { call, .. } => takes_unit(call),
+    }
+}
+
+// Takes a record: a malformed one answers 16 and changes nothing.
 pub fn take(
     m: Meaning,
     p: TwoUnits,
@@ -130,23 +141,42 @@ pub fn take(
             outcome: malformed(),
             units: p,
         },
-        Meaning::Asked { kind, unit, call } => {
-            if takes_unit(call) {
-                return on_unit(kind, unit, call, p, control, frames, pages, ranges);
-            }
+        Meaning::Asked { kind, unit, call } => on_unit(
+            kind,
+            unit,
+            call,
+            p,
+            control,
+            frames,
+            pages,
+            ranges,
+        ),
+    }
+}
+
+// Takes a record that needs no unit as `take` does, and copies none.
+pub fn take_beside(
+    m: Meaning,
+    control: &mut [u32],
+    frames: &mut [u32],
+    pages: &mut [u32],
+    ranges: &mut [u32],
+) -> Shown
+    requires { ⌜ needsUnit m ≡ false ⌝ }
+    ensures { λ r. ⌜ TakenBeside (tables (now (control .entry)) (now (frames .entry)) (now (pages .entry)) (now (ranges .entry))) m r (tables (now (control .exit)) (now (frames .exit)) (now (pages .exit)) (now (ranges .exit))) ⌝ }
+{
+    match m {
+        Meaning::Malformed(kind) => Shown {
+            kind,
+            outcome: malformed(),
+            renews: false,
+        },
+        Meaning::Asked { kind, call, .. } => {
             let a = units::on_tables(call, control, frames, pages, ranges);
-            let outcome = tables::outcome(a);
-            if renews(kind, a) {
-                return Step {
-                    kind,
-                    outcome,
-                    units: fresh_units(),
-                };
-            }
-            Step {
+            Shown {
                 kind,
-                outcome,
-                units: p,
+                outcome: tables::outcome(a),
+                renews: renews(kind, a),
             }
         }
     }
