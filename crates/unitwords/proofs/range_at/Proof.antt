@@ -1,3 +1,4 @@
+use mathlib.Core.Path.{refl}
 use Rattle.unitwords.specs.UnitWords.{rangeAt}
 use borrow.Author.Needs.{needs}
 use Rattle.unitwords.proofs.range_at.Statement.{statement}
@@ -82,7 +83,7 @@ shared-slice-read-t26 c = search needs
 -- src/lib.rt:29:1
 returns : tie.Need-returns
 unfolding rangeAt
-returns c = search needs
+returns c = refl
 
 pub range-at-spec : {M : Type 1} → statement M
 range-at-spec =
