@@ -4,7 +4,6 @@ use mathlib.Core.Bool.{true, false}
 use Prim.Native.Nat.{ℕ}
 use Rattle.words.proofs.Cases.{true-false}
 use Rattle.layout.specs.declared.Answer.{Answer}
-use Rattle.layout.specs.declared.Answer.the-variants.{WrongLength}
 use Rattle.layout.specs.Tables.{Tables}
 use Rattle.history.specs.declared.Unit.{Unit as TlbUnit}
 use Rattle.history.specs.declared.Call.{Call}
@@ -54,10 +53,6 @@ module _ (c : Call) (a : (F : ℕ) → c ≡ SetUpPool F → ⊥) (b : (s : ℕ)
       go (Protect s first n rights) q t = g s first n rights q
       go (Translate s p x) q t = true-false (takesUnit (Translate s p x)) (unit-translate s p x) t
       go (Coverage s) q t = h s q
-
--- one that takes a unit is refused, and nothing is altered
-pub on-none : (T : Tables) (c : Call) → (takesUnit c ≡ false → ⊥) → OnTables T WrongLength c T
-on-none T c n = record { does = λ f. absurd (n f); refused = λ t. (refl, refl) }
 
 -- a call on the tables, which leaves the unit as it was
 pub beside-does : (T T′ : Tables) (u : TlbUnit) (c : Call) (a : Answer) (r : Translation) → r ≡ record { unit = u; answer = a } → takesUnit c ≡ false → OnTables T a c T′ → Does T u (r .answer) c T′ (r .unit)

@@ -2,7 +2,7 @@ use mathlib.Core.Path.{refl, sym}
 use mathlib.Core.List.{[], _∷_}
 use types.Run.{miss}
 use Rattle.history.specs.Lists.{takesUnit, sets-up, opens, closes, maps, unmaps, protects, measures}
-use Rattle.units.proofs.PerformLaws.{on-tables, takes-one, on-none}
+use Rattle.units.proofs.PerformLaws.{on-tables, takes-one}
 use borrow.Author.Needs.{needs}
 use Rattle.units.proofs.performing.on_tables.Statement.{statement}
 use Rattle.units.proofs.performing.on_tables.Tie as tie
@@ -222,14 +222,15 @@ returns-7 c = on-tables _ _ _ _ _ (sym (c .before .before .before .before .befor
 -- src/performing.rt:14:1
 returns-8 : tie.Need-returns-8
 returns-8 c =
-    on-none _ _ (takes-one _
+    let one = takes-one (c .before .before .before .before .before .args .call)
     (λ F e. miss (1 ∷ 7 ∷ []) 0 tt (rw e at (c .match .keys8)))
     (λ s e. miss (1 ∷ 7 ∷ []) 2 tt (rw e at (c .match .keys8)))
     (λ s e. miss (1 ∷ 7 ∷ []) 3 tt (rw e at (c .match .keys8)))
     (λ s first n rights e. miss (1 ∷ 7 ∷ []) 4 tt (rw e at (c .match .keys8)))
     (λ s first n e. miss (1 ∷ 7 ∷ []) 5 tt (rw e at (c .match .keys8)))
     (λ s first n rights e. miss (1 ∷ 7 ∷ []) 6 tt (rw e at (c .match .keys8)))
-    (λ s e. miss (1 ∷ 7 ∷ []) 8 tt (rw e at (c .match .keys8))))
+    (λ s e. miss (1 ∷ 7 ∷ []) 8 tt (rw e at (c .match .keys8))) in
+    record { does = λ f. absurd (one f); refused = λ t. (refl, refl) }
 
 pub on-tables-spec : {M : Type 1} → statement M
 on-tables-spec =
