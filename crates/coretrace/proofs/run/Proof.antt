@@ -1,4 +1,4 @@
-use mathlib.Core.Path.{_≡_}
+use mathlib.Core.Path.{_≡_, sym, _∙_}
 use Prim.Native.Nat.{_≤_, _-_}
 use native.Mathlib.Omega.{arith}
 use lib.ListN.{length}
@@ -7,6 +7,8 @@ use Rattle.coretrace.proofs.run.Statement.{statement}
 use Rattle.coretrace.proofs.run.Tie as tie
 use Rattle.coretrace.proofs.run.Reads as reads
 use Rattle.coretrace.proofs.run.Lts as lts
+use Rattle.coretrace.proofs.answering.answer_beside.Reads as answer-beside-reads
+use Rattle.coretrace.proofs.answering.answer_on.Reads as answer-on-reads
 use Rattle.coretrace.proofs.input.fetch.Reads as fetch-reads
 use Rattle.coretrace.proofs.input.fill.Reads as fill-reads
 use Rattle.coretrace.proofs.input.ready.Reads as ready-reads
@@ -15,151 +17,183 @@ use Rattle.coretrace.proofs.output.line.Reads as line-reads
 use Rattle.coretrace.proofs.output.settle.Reads as settle-reads
 use Rattle.trace.proofs.fresh_units.Reads as fresh-units-reads
 use Rattle.trace.proofs.malformed.Reads as malformed-reads
-use Rattle.trace.proofs.take.Reads as take-reads
+use Rattle.trace.proofs.needs_unit.Reads as needs-unit-reads
 
 abbrev Inv-loop : tie.InvT-loop
-Inv-loop lines₀ control₀ frames₀ pages₀ ranges₀ space₀ units₀ window₀ held₀ number₀ lines control frames pages ranges space units window held number = (length control ≡ 195) × ((length frames ≡ 4096) × ((length pages ≡ 4096) × ((length ranges ≡ 2048) × ((length space ≡ 131072) × ((length lines ≡ 65536) × ((window .from ≤ window .to) × ((window .to ≤ 131072) × ((held ≤ 65536) × (number ≤ 18446744073709551615)))))))))
+Inv-loop control₀ frames₀ pages₀ ranges₀ space₀ lines₀ pair₀ window₀ held₀ number₀ control frames pages ranges space lines pair window held number = (length control ≡ length control₀) × ((length frames ≡ length frames₀) × ((length pages ≡ length pages₀) × ((length ranges ≡ length ranges₀) × ((length space ≡ length space₀) × ((length lines ≡ length lines₀) × ((window .from ≤ window .to) × ((window .to ≤ length space₀) × ((held ≤ length lines₀) × (number ≤ 18446744073709551615)))))))))
 
 abbrev μ-loop : tie.MeasureT-loop
-μ-loop lines₀ control₀ frames₀ pages₀ ranges₀ space₀ units₀ window₀ held₀ number₀ lines control frames pages ranges space units window held number = 18446744073709551615 - number
+μ-loop control₀ frames₀ pages₀ ranges₀ space₀ lines₀ pair₀ window₀ held₀ number₀ control frames pages ranges space lines pair window held number = 18446744073709551615 - number
 
--- src/main.rt:24:9
+-- src/main.rt:29:9
 fresh-units-requires : tie.Need-fresh-units-requires Inv-loop μ-loop
 fresh-units-requires c κs = search needs
 
--- src/main.rt:27:5
+-- src/main.rt:32:5
 loop-holds : tie.Need-loop-holds Inv-loop μ-loop
 loop-holds c = search needs
 
--- src/main.rt:29:44
-slice-aggregate-ready : tie.Need-slice-aggregate-ready Inv-loop μ-loop
-slice-aggregate-ready c = search needs
-
--- src/main.rt:29:31
+-- src/main.rt:34:31
 ready-requires : tie.Need-ready-requires Inv-loop μ-loop
 ready-requires c κs = search needs
 
--- src/main.rt:29:9
+-- src/main.rt:34:9
 settle-requires : tie.Need-settle-requires Inv-loop μ-loop
 settle-requires c κs = search needs
 
--- src/main.rt:30:30
-slice-aggregate-fill : tie.Need-slice-aggregate-fill Inv-loop μ-loop
-slice-aggregate-fill c = search needs
-
--- src/main.rt:30:9
+-- src/main.rt:35:9
 fill-requires : tie.Need-fill-requires Inv-loop μ-loop
 fill-requires c κs = search needs
 
--- src/main.rt:31:33
-slice-aggregate-fetch : tie.Need-slice-aggregate-fetch Inv-loop μ-loop
-slice-aggregate-fetch c = search needs
-
--- src/main.rt:31:13
+-- src/main.rt:36:23
 fetch-requires : tie.Need-fetch-requires Inv-loop μ-loop
 fetch-requires c κs = search needs
 
--- src/main.rt:32:30
-slice-aggregate-rest : tie.Need-slice-aggregate-rest Inv-loop μ-loop
-slice-aggregate-rest c = search needs
-
--- src/main.rt:32:9
-rest-requires : tie.Need-rest-requires Inv-loop μ-loop
-rest-requires c κs = search needs
-
--- src/main.rt:34:26
+-- src/main.rt:37:26
 enum-told : tie.Need-enum-told Inv-loop μ-loop
 enum-told c = search needs
 
--- src/main.rt:34:26
+-- src/main.rt:37:26
 same-length : tie.Need-same-length Inv-loop μ-loop
 same-length c = search needs
 
--- src/main.rt:34:26
-returns : tie.Need-returns Inv-loop μ-loop
-returns c = omega (arith, c .before .before .before .before .before .before .before .before .before .before .before .before .before .before .loop, c .before .before .before .before .before .before .before .before .before .settle)
-
--- src/main.rt:35:57
-enum-told-2 : tie.Need-enum-told-2 Inv-loop μ-loop
-enum-told-2 c = search needs
-
--- src/main.rt:35:57
-malformed-requires : tie.Need-malformed-requires Inv-loop μ-loop
-malformed-requires c κs = search needs
-
--- src/main.rt:35:26
-line-requires : tie.Need-line-requires Inv-loop μ-loop
-line-requires c κs = (omega (arith, c .before .before .before .before .before .before .before .before .before .before .before .before .before .before .before .before .loop), omega (arith, c .before .before .before .before .before .before .before .before .before .before .before .before .before .before .before .before .loop, c .before .before .before .before .before .before .before .before .before .before .before .settle))
-
--- src/main.rt:35:26
+-- src/main.rt:37:26
 same-length-2 : tie.Need-same-length-2 Inv-loop μ-loop
-same-length-2 c = omega (arith, c .before .before .before .before .before .before .before .before .before .before .before .before .before .before .before .before .before .before .before .loop, c .before .before .line, c .before .before .before .before .before .before .before .before .before .before .before .before .before .before .before .before .before .before .before .before .before .before .pre)
+same-length-2 c = search needs
 
--- src/main.rt:35:26
-returns-2 : tie.Need-returns-2 Inv-loop μ-loop
-returns-2 c = omega (arith, c .before .before .before .before .before .before .before .before .before .before .before .before .before .before .before .before .before .before .before .loop, c .before .before .line)
-
--- src/main.rt:36:25
-enum-known-next : tie.Need-enum-known-next Inv-loop μ-loop
-enum-known-next c = search needs
-
--- src/main.rt:37:47
-slice-aggregate-take : tie.Need-slice-aggregate-take Inv-loop μ-loop
-slice-aggregate-take c = search needs
-
--- src/main.rt:37:61
-slice-aggregate-take-2 : tie.Need-slice-aggregate-take-2 Inv-loop μ-loop
-slice-aggregate-take-2 c = search needs
-
--- src/main.rt:37:74
-slice-aggregate-take-3 : tie.Need-slice-aggregate-take-3 Inv-loop μ-loop
-slice-aggregate-take-3 c = search needs
-
--- src/main.rt:37:86
-slice-aggregate-take-4 : tie.Need-slice-aggregate-take-4 Inv-loop μ-loop
-slice-aggregate-take-4 c = search needs
-
--- src/main.rt:37:21
-take-requires : tie.Need-take-requires Inv-loop μ-loop
-take-requires c κs = search needs
-
--- src/main.rt:40:17
-line-requires-2 : tie.Need-line-requires-2 Inv-loop μ-loop
-line-requires-2 c κs = (omega (arith, c .before .before .before .before .before .before .before .before .before .before .before .before .before .before .before .before .before .before .before .before .before .before .before .before .before .before .before .loop), omega (arith, c .before .before .before .before .before .before .before .before .before .before .before .before .before .before .before .before .before .before .before .before .before .before .before .before .before .before .before .loop, c .before .before .before .before .before .before .before .before .before .before .before .before .before .before .before .before .before .before .before .before .before .before .settle))
-
--- src/main.rt:27:9
-add-number : tie.Need-add-number Inv-loop μ-loop
-add-number c = omega (arith, c .before .before .before .before .before .before .before .before .before .before .before .before .before .before .before .before .before .before .before .before .before .before .before .before .before .before .before .before .before .before .loop, c .before .before .before .before .before .before .before .before .before .before .before .before .before .before .before .before .before .before .before .before .before .before .before .before .before .before .before .before .before .loop-test)
-
--- src/main.rt:27:5
-loop-less : tie.Need-loop-less Inv-loop μ-loop
-loop-less c = omega (arith, c .before .before .before .before .before .before .before .before .before .before .before .before .before .before .before .before .before .before .before .before .before .before .before .before .before .before .before .before .before .before .loop, c .before .before .before .before .before .before .before .before .before .before .before .before .before .before .before .before .before .before .before .before .before .before .before .before .before .before .before .before .before .loop-test)
-
--- src/main.rt:27:5
-loop-again : tie.Need-loop-again Inv-loop μ-loop
-loop-again c =
-    let l = c .before .before .before .before .before .before .before .before .before .before .before .before .before .before .before .before .before .before .before .before .before .before .before .before .before .before .before .before .before .before .loop in (
-      omega (arith, l, c .before .before .before .before .before .before .before .before .before .before .take),
-      (
-        omega (arith, l, c .before .before .before .before .before .before .before .before .before .before .take),
-        (
-          omega (arith, l, c .before .before .before .before .before .before .before .before .before .before .take),
-          (
-            omega (arith, l, c .before .before .before .before .before .before .before .before .before .before .take),
-            (
-              omega (arith, l, c .before .before .before .before .before .before .before .before .before .before .before .before .before .before .before .before .before .before .before .before .before .before .before .fill),
-              (omega (arith, l, c .before .before .line2), (omega (arith, c .before .before .before .before .before .before .before .before .before .before .before .before .before .before .before .before .before .before .rest), (omega (arith, l, c .before .before .before .before .before .before .before .before .before .before .before .before .before .before .before .before .before .before .before .before .before .before .before .fill, c .before .before .before .before .before .before .before .before .before .before .before .before .before .before .before .before .before .before .rest), (omega (arith, l, c .before .before .line2), omega (arith, l, c .before .before .before .before .before .before .before .before .before .before .before .before .before .before .before .before .before .before .before .before .before .before .before .before .before .before .before .before .before .loop-test))))),
-            ),
-          ),
-        ),
-      ),
-    )
-
--- src/main.rt:15:1
+-- src/main.rt:37:26
 same-length-3 : tie.Need-same-length-3 Inv-loop μ-loop
 same-length-3 c = search needs
 
--- src/main.rt:15:1
+-- src/main.rt:37:26
+same-length-4 : tie.Need-same-length-4 Inv-loop μ-loop
+same-length-4 c = search needs
+
+-- src/main.rt:37:26
+same-length-5 : tie.Need-same-length-5 Inv-loop μ-loop
+same-length-5 c = search needs
+
+-- src/main.rt:37:26
+same-length-6 : tie.Need-same-length-6 Inv-loop μ-loop
+same-length-6 c = search needs
+
+-- src/main.rt:37:26
+returns : tie.Need-returns Inv-loop μ-loop
+returns c = omega (arith, c .before .before .before .before .before .before .before .before .before .before .before .before .before .loop, c .before .before .before .before .before .before .before .before .settle)
+
+-- src/main.rt:38:57
+enum-told-2 : tie.Need-enum-told-2 Inv-loop μ-loop
+enum-told-2 c = search needs
+
+-- src/main.rt:38:57
+malformed-requires : tie.Need-malformed-requires Inv-loop μ-loop
+malformed-requires c κs = search needs
+
+-- src/main.rt:38:26
+line-requires : tie.Need-line-requires Inv-loop μ-loop
+line-requires c κs = (omega (arith, c .before .before .before .before .before .before .before .before .before .before .before .before .before .before .before .loop, c .before .before .before .before .before .before .before .before .before .before .before .before .before .before .before .before .before .before .before .before .before .before .before .pre), omega (arith, c .before .before .before .before .before .before .before .before .before .before .before .before .before .before .before .loop, c .before .before .before .before .before .before .before .before .before .before .settle))
+
+-- src/main.rt:38:26
+same-length-7 : tie.Need-same-length-7 Inv-loop μ-loop
+same-length-7 c = search needs
+
+-- src/main.rt:38:26
+same-length-8 : tie.Need-same-length-8 Inv-loop μ-loop
+same-length-8 c = search needs
+
+-- src/main.rt:38:26
+same-length-9 : tie.Need-same-length-9 Inv-loop μ-loop
+same-length-9 c = search needs
+
+-- src/main.rt:38:26
+same-length-10 : tie.Need-same-length-10 Inv-loop μ-loop
+same-length-10 c = search needs
+
+-- src/main.rt:38:26
+same-length-11 : tie.Need-same-length-11 Inv-loop μ-loop
+same-length-11 c = omega (arith, c .before .before .before .before .before .before .before .before .before .before .before .before .before .before .before .before .before .before .loop, c .before .before .before .before .before .before .before .before .before .before .before .fill)
+
+-- src/main.rt:38:26
+same-length-12 : tie.Need-same-length-12 Inv-loop μ-loop
+same-length-12 c = omega (arith, c .before .before .before .before .before .before .before .before .before .before .before .before .before .before .before .before .before .before .loop, c .before .before .line)
+
+-- src/main.rt:38:26
+returns-2 : tie.Need-returns-2 Inv-loop μ-loop
+returns-2 c = omega (arith, c .before .before .before .before .before .before .before .before .before .before .before .before .before .before .before .before .before .before .loop, c .before .before .line)
+
+-- src/main.rt:39:25
+enum-known-m : tie.Need-enum-known-m Inv-loop μ-loop
+enum-known-m c = search needs
+
+-- src/main.rt:41:9
+rest-requires : tie.Need-rest-requires Inv-loop μ-loop
+rest-requires c κs = search needs
+
+-- src/main.rt:42:12
+needs-unit-requires : tie.Need-needs-unit-requires Inv-loop μ-loop
+needs-unit-requires c κs = search needs
+
+-- src/main.rt:43:17
+answer-on-requires : tie.Need-answer-on-requires Inv-loop μ-loop
+answer-on-requires c κs = (omega (arith, c .before .before .before .before .before .before .before .before .before .before .before .before .before .before .before .before .before .before .before .before .before .before .before .loop, c .before .before .before .before .before .before .before .before .before .before .before .before .before .before .before .before .before .before .before .before .before .before .before .before .before .before .before .before .before .before .before .pre), omega (arith, c .before .before .before .before .before .before .before .before .before .before .before .before .before .before .before .before .before .before .before .before .before .before .before .loop, c .before .before .before .before .before .before .before .before .before .before .before .before .before .before .before .before .before .before .settle))
+
+-- src/main.rt:46:13
+add-number : tie.Need-add-number Inv-loop μ-loop
+add-number c = omega (arith, c .before .before .before .before .before .before .before .before .before .before .before .before .before .before .before .before .before .before .before .before .before .before .before .before .before .before .before .before .before .before .before .before .before .before .before .loop, c .before .before .before .before .before .before .before .before .before .before .before .before .before .before .before .before .before .before .before .before .before .before .before .before .before .before .before .before .before .before .before .before .before .before .loop-test)
+
+-- src/main.rt:32:5
+loop-less : tie.Need-loop-less Inv-loop μ-loop
+loop-less c = omega (arith, c .before .before .before .before .before .before .before .before .before .before .before .before .before .before .before .before .before .before .before .before .before .before .before .before .before .before .before .before .before .before .before .before .before .before .before .loop, c .before .before .before .before .before .before .before .before .before .before .before .before .before .before .before .before .before .before .before .before .before .before .before .before .before .before .before .before .before .before .before .before .before .before .loop-test)
+
+-- src/main.rt:32:5
+loop-again : tie.Need-loop-again Inv-loop μ-loop
+loop-again c = let l = c .before .before .before .before .before .before .before .before .before .before .before .before .before .before .before .before .before .before .before .before .before .before .before .before .before .before .before .before .before .before .before .before .before .before .before .loop in (omega (arith, l, c .before .before .before .before .before .before .before .before .before .before .before .answer-on), (omega (arith, l, c .before .before .before .before .before .before .before .before .before .before .before .answer-on), (omega (arith, l, c .before .before .before .before .before .before .before .before .before .before .before .answer-on), (omega (arith, l, c .before .before .before .before .before .before .before .before .before .before .before .answer-on), (omega (arith, l, c .before .before .before .before .before .before .before .before .before .before .before .before .before .before .before .before .before .before .before .before .before .before .before .before .before .before .before .before .fill), (omega (arith, l, c .before .before .before .before .before .before .before .before .before .before .before .answer-on), (omega (arith, c .before .before .before .before .before .before .before .before .before .before .before .before .before .before .before .before .before .before .before .rest), (omega (arith, l, c .before .before .before .before .before .before .before .before .before .before .before .before .before .before .before .before .before .before .before .before .before .before .before .before .before .before .before .before .fill, c .before .before .before .before .before .before .before .before .before .before .before .before .before .before .before .before .before .before .before .rest), (omega (arith, l, c .before .before .before .before .before .before .before .before .before .before .before .answer-on), omega (arith, l, c .before .before .before .before .before .before .before .before .before .before .before .before .before .before .before .before .before .before .before .before .before .before .before .before .before .before .before .before .before .before .before .before .before .before .loop-test))))))))))
+
+-- src/main.rt:48:13
+answer-beside-requires : tie.Need-answer-beside-requires Inv-loop μ-loop
+answer-beside-requires c κs = (sym (c .before .before .before .before .before .before .needs-unit .ensures) ∙ c .before .before .before .before .before .if1 .left, (omega (arith, c .before .before .before .before .before .before .before .before .before .before .before .before .before .before .before .before .before .before .before .before .before .before .before .loop, c .before .before .before .before .before .before .before .before .before .before .before .before .before .before .before .before .before .before .before .before .before .before .before .before .before .before .before .before .before .before .before .pre), omega (arith, c .before .before .before .before .before .before .before .before .before .before .before .before .before .before .before .before .before .before .before .before .before .before .before .loop, c .before .before .before .before .before .before .before .before .before .before .before .before .before .before .before .before .before .before .settle)))
+
+-- src/main.rt:51:13
+fresh-units-requires-2 : tie.Need-fresh-units-requires-2 Inv-loop μ-loop
+fresh-units-requires-2 c κs = search needs
+
+-- src/main.rt:32:9
+add-number-2 : tie.Need-add-number-2 Inv-loop μ-loop
+add-number-2 c = omega (arith, c .before .before .before .before .before .before .before .before .before .before .before .before .before .before .before .before .before .before .before .before .before .before .before .before .before .before .before .before .before .before .before .before .before .before .before .loop, c .before .before .before .before .before .before .before .before .before .before .before .before .before .before .before .before .before .before .before .before .before .before .before .before .before .before .before .before .before .before .before .before .before .before .loop-test)
+
+-- src/main.rt:32:5
+loop-less-2 : tie.Need-loop-less-2 Inv-loop μ-loop
+loop-less-2 c = omega (arith, c .before .before .before .before .before .before .before .before .before .before .before .before .before .before .before .before .before .before .before .before .before .before .before .before .before .before .before .before .before .before .before .before .before .before .before .loop, c .before .before .before .before .before .before .before .before .before .before .before .before .before .before .before .before .before .before .before .before .before .before .before .before .before .before .before .before .before .before .before .before .before .before .loop-test)
+
+-- src/main.rt:32:5
+loop-again-2 : tie.Need-loop-again-2 Inv-loop μ-loop
+loop-again-2 c = let l = c .before .before .before .before .before .before .before .before .before .before .before .before .before .before .before .before .before .before .before .before .before .before .before .before .before .before .before .before .before .before .before .before .before .before .before .loop in (omega (arith, l, c .before .before .before .before .before .before .before .before .before .before .before .answer-beside), (omega (arith, l, c .before .before .before .before .before .before .before .before .before .before .before .answer-beside), (omega (arith, l, c .before .before .before .before .before .before .before .before .before .before .before .answer-beside), (omega (arith, l, c .before .before .before .before .before .before .before .before .before .before .before .answer-beside), (omega (arith, l, c .before .before .before .before .before .before .before .before .before .before .before .before .before .before .before .before .before .before .before .before .before .before .before .before .before .before .before .before .fill), (omega (arith, l, c .before .before .before .before .before .before .before .before .before .before .before .answer-beside), (omega (arith, c .before .before .before .before .before .before .before .before .before .before .before .before .before .before .before .before .before .before .before .rest), (omega (arith, l, c .before .before .before .before .before .before .before .before .before .before .before .before .before .before .before .before .before .before .before .before .before .before .before .before .before .before .before .before .fill, c .before .before .before .before .before .before .before .before .before .before .before .before .before .before .before .before .before .before .before .rest), (omega (arith, l, c .before .before .before .before .before .before .before .before .before .before .before .answer-beside), omega (arith, l, c .before .before .before .before .before .before .before .before .before .before .before .before .before .before .before .before .before .before .before .before .before .before .before .before .before .before .before .before .before .before .before .before .before .before .loop-test))))))))))
+
+-- src/main.rt:17:1
+same-length-13 : tie.Need-same-length-13 Inv-loop μ-loop
+same-length-13 c = search needs
+
+-- src/main.rt:17:1
+same-length-14 : tie.Need-same-length-14 Inv-loop μ-loop
+same-length-14 c = search needs
+
+-- src/main.rt:17:1
+same-length-15 : tie.Need-same-length-15 Inv-loop μ-loop
+same-length-15 c = search needs
+
+-- src/main.rt:17:1
+same-length-16 : tie.Need-same-length-16 Inv-loop μ-loop
+same-length-16 c = search needs
+
+-- src/main.rt:17:1
+same-length-17 : tie.Need-same-length-17 Inv-loop μ-loop
+same-length-17 c = search needs
+
+-- src/main.rt:17:1
+same-length-18 : tie.Need-same-length-18 Inv-loop μ-loop
+same-length-18 c = search needs
+
+-- src/main.rt:17:1
 returns-3 : tie.Need-returns-3 Inv-loop μ-loop
 returns-3 c = search needs
 
@@ -171,32 +205,44 @@ run-spec =
     μ-loop
     fresh-units-requires
     loop-holds
-    slice-aggregate-ready
     ready-requires
     settle-requires
-    slice-aggregate-fill
     fill-requires
-    slice-aggregate-fetch
     fetch-requires
-    slice-aggregate-rest
-    rest-requires
     enum-told
     same-length
+    same-length-2
+    same-length-3
+    same-length-4
+    same-length-5
+    same-length-6
     returns
     enum-told-2
     malformed-requires
     line-requires
-    same-length-2
+    same-length-7
+    same-length-8
+    same-length-9
+    same-length-10
+    same-length-11
+    same-length-12
     returns-2
-    enum-known-next
-    slice-aggregate-take
-    slice-aggregate-take-2
-    slice-aggregate-take-3
-    slice-aggregate-take-4
-    take-requires
-    line-requires-2
+    enum-known-m
+    rest-requires
+    needs-unit-requires
+    answer-on-requires
     add-number
     loop-less
     loop-again
-    same-length-3
+    answer-beside-requires
+    fresh-units-requires-2
+    add-number-2
+    loop-less-2
+    loop-again-2
+    same-length-13
+    same-length-14
+    same-length-15
+    same-length-16
+    same-length-17
+    same-length-18
     returns-3)
