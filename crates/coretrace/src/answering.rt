@@ -1,12 +1,12 @@
 // A record taken, and its line put behind the held ones.
 ghost use mathlib.Core.Path.{_≡_};
-ghost use mathlib.Core.Bool.{true, false, cond};
+ghost use mathlib.Core.Bool.{false, cond};
 ghost use Prim.Native.Nat.{_≤_};
 ghost use lib.ListN.{length};
 ghost use Rattle.layout.specs.Tables.{tables};
 ghost use Rattle.trace.specs.declared.TwoUnits.{TwoUnits};
 ghost use Rattle.trace.specs.Steps.{freshUnits, needsUnit};
-ghost use Rattle.coretrace.specs.Answering.{Answered};
+ghost use Rattle.coretrace.specs.Answering.{Listed};
 use crate::output::line;
 use trace::Meaning;
 use trace::TwoUnits;
@@ -37,7 +37,7 @@ pub fn answer_on(
 ) -> OnUnits
     requires { ⌜ 105 ≤ length (now lines) ⌝ }
     requires { ⌜ held ≤ length (now lines) ⌝ }
-    ensures { λ r. ⌜ Answered (tables (now (control .entry)) (now (frames .entry)) (now (pages .entry)) (now (ranges .entry))) p (now (lines .entry)) held number m (tables (now (control .exit)) (now (frames .exit)) (now (pages .exit)) (now (ranges .exit))) (r .units) (now (lines .exit)) (r .held) ⌝ }
+    ensures { λ r. ⌜ Listed (tables (now (control .entry)) (now (frames .entry)) (now (pages .entry)) (now (ranges .entry))) p (now (lines .entry)) held number m (tables (now (control .exit)) (now (frames .exit)) (now (pages .exit)) (now (ranges .exit))) (r .units) (now (lines .exit)) (r .held) ⌝ }
     ensures { λ r. ⌜ r .held ≤ length (now (lines .entry)) ⌝ }
 {
     let s = trace::take(m, p, control, frames, pages, ranges);
@@ -63,7 +63,7 @@ pub fn answer_beside(
     requires { ⌜ needsUnit m ≡ false ⌝ }
     requires { ⌜ 105 ≤ length (now lines) ⌝ }
     requires { ⌜ held ≤ length (now lines) ⌝ }
-    ensures { λ r. ⌜ ((p : TwoUnits) → Answered (tables (now (control .entry)) (now (frames .entry)) (now (pages .entry)) (now (ranges .entry))) p (now (lines .entry)) held number m (tables (now (control .exit)) (now (frames .exit)) (now (pages .exit)) (now (ranges .exit))) (cond (r .renews) freshUnits p) (now (lines .exit)) (r .held)) ⌝ }
+    ensures { λ r. ⌜ ((p : TwoUnits) → Listed (tables (now (control .entry)) (now (frames .entry)) (now (pages .entry)) (now (ranges .entry))) p (now (lines .entry)) held number m (tables (now (control .exit)) (now (frames .exit)) (now (pages .exit)) (now (ranges .exit))) (cond (r .renews) freshUnits p) (now (lines .exit)) (r .held)) ⌝ }
     ensures { λ r. ⌜ r .held ≤ length (now (lines .entry)) ⌝ }
 {
     let s = trace::take_beside(m, control, frames, pages, ranges);
