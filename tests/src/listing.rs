@@ -1,6 +1,10 @@
 //! coretrace against the second program: equal listings, byte for byte.
 use crate::second::{coretrace, output, reference, root};
 use std::collections::BTreeMap;
+use std::io::{BufRead, BufReader, Write};
+use std::process::{Command, Stdio};
+use std::sync::mpsc::channel;
+use std::time::Duration;
 
 pub const STYLES: [&str; 5] = ["mixed", "sleep", "fragment", "big", "garbage"];
 
@@ -77,8 +81,59 @@ fn hard() -> bool {
     fine && !names.is_empty()
 }
 
+/// No input at all, and inputs whose bytes and lines are several times what coretrace holds of either.
+fn long() -> bool {
+    let mut fine = same("no input", &[]);
+    fine &= same("70000 records of length 0", &[0; 140_000]);
+    for style in ["mixed", "fragment"] {
+        let input = output(&reference(), &["gen", "1", "20000", style], &[]);
+        fine &= same(&format!("seed 1, 20000 records, style {style}"), &input);
+    }
+    println!("no input and 3 long files");
+    fine
+}
+
+/// The records of a file, each with its length.
+fn records(mut bytes: &[u8]) -> Vec<&[u8]> {
+    let mut all = Vec::new();
+    while bytes.len() >= 2 {
+        let n = 2 + usize::from(u16::from_le_bytes([bytes[0], bytes[1]]));
+        let (record, rest) = bytes.split_at(n);
+        all.push(record);
+        bytes = rest;
+    }
+    all
+}
+
+/// Whoever sends one record, piece by piece, and waits gets its line before the input ends.
+fn in_step() -> bool {
+    let hard = root().join("tests/hard");
+    let input = output(&reference(), &["encode"], &std::fs::read(hard.join("listing.trace")).unwrap());
+    let listing = std::fs::read_to_string(hard.join("listing.listing")).unwrap();
+    let mut child = Command::new(coretrace()).stdin(Stdio::piped()).stdout(Stdio::piped()).spawn().unwrap();
+    let from = BufReader::new(child.stdout.take().unwrap());
+    let (line, lines) = channel();
+    std::thread::spawn(move || from.lines().all(|l| l.is_ok_and(|l| line.send(l).is_ok())));
+    let mut to = child.stdin.take().unwrap();
+    let waits = |wanted: &str| lines.recv_timeout(Duration::from_secs(20)).is_ok_and(|l| l == wanted);
+    let mut wanted = listing.lines();
+    let mut fine = waits(wanted.next().unwrap());
+    for record in records(&input) {
+        for piece in record.chunks(3) {
+            fine = fine && to.write_all(piece).is_ok();
+        }
+        fine = fine && waits(wanted.next().unwrap());
+    }
+    let _ = child.kill();
+    let _ = child.wait();
+    println!("in step: {}", if fine { "each line came" } else { "a line did not come" });
+    fine
+}
+
 pub fn compare(files: u64, first: u64) -> bool {
     let mut fine = hard();
+    fine &= long();
+    fine &= in_step();
     for style in STYLES {
         let mut reached: BTreeMap<String, u64> = BTreeMap::new();
         for seed in first..first + files {

@@ -17,6 +17,9 @@ pub fn coretrace() -> PathBuf {
     root().join("target/bin/coretrace")
 }
 
+/// More than any listing compared here has.
+const MOST: u64 = 1 << 26;
+
 /// What a program writes, given its input.
 pub fn output(program: &PathBuf, words: &[&str], input: &[u8]) -> Vec<u8> {
     let mut child = Command::new(program).args(words).stdin(Stdio::piped()).stdout(Stdio::piped()).spawn().unwrap();
@@ -27,7 +30,8 @@ pub fn output(program: &PathBuf, words: &[&str], input: &[u8]) -> Vec<u8> {
         let _ = stdin.write_all(&bytes);
     });
     let mut out = Vec::new();
-    child.stdout.take().unwrap().read_to_end(&mut out).unwrap();
+    child.stdout.take().unwrap().take(MOST).read_to_end(&mut out).unwrap();
+    assert!((out.len() as u64) < MOST, "{} does not stop writing", program.display());
     writer.join().unwrap();
     assert!(child.wait().unwrap().success(), "{} stopped with an error", program.display());
     out
