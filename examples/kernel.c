@@ -30,9 +30,9 @@ static void translate(uint32_t page)
 
 int main(void)
 {
+    show(yavrestom_set_up_pool(TABLES, 32, VALUES));
     if (yavrestom_set_up_unit(UNIT, VALUES) != 0)
         return 1;
-    show(yavrestom_set_up_pool(TABLES, 32, VALUES));
     show(yavrestom_open(TABLES, 0, VALUES));
     show(yavrestom_map(TABLES, 0, 4, 11, 3, VALUES));
     translate(6);

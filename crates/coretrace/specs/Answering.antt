@@ -11,7 +11,7 @@ use Rattle.trace.specs.Lines.{written, line}
 use Rattle.trace.specs.Steps.{Taken}
 use Rattle.coretrace.specs.Output.{placed}
 
--- the record is taken, and the line that shows its number and what came of it goes behind the held ones
+-- the record is taken, and the line that shows its number and what came of it is put where the next one goes
 pub record Listed (T : Tables) (p : TwoUnits) (lines : List ℕ) (held number : ℕ) (m : Meaning) (T′ : Tables) (p′ : TwoUnits) (lines′ : List ℕ) (held′ : ℕ) : Type 0 where
   pub kind : ℕ
   pub outcome : Outcome

@@ -1,4 +1,4 @@
-// A record taken, and its line put behind the held ones.
+// A record taken, and its line put where the next one goes.
 ghost use mathlib.Core.Path.{_≡_};
 ghost use mathlib.Core.Bool.{false, cond};
 ghost use Prim.Native.Nat.{_≤_};
@@ -17,7 +17,7 @@ pub struct OnUnits {
     pub units: TwoUnits,
 }
 
-// How many bytes are held afterwards, and whether both units are fresh.
+// How many bytes are held afterwards, and whether both units are made fresh.
 pub struct Beside {
     pub held: usize,
     pub renews: bool,

@@ -13,7 +13,7 @@ use crate::input::Window;
 // The last number of 64 bits, which no run comes to.
 const LAST: u64 = 18446744073709551615;
 
-// Answers the records; of the lines, the first bytes that it answers are still to be written.
+// Answers the records; returns how many first bytes of `lines` are still to be written.
 fn run(
     control: &mut [u32],
     frames: &mut [u32],

@@ -110,7 +110,7 @@ fn cleared(w: u32, owner: u32, n: u32) -> u32
     w
 }
 
-// Only words below the pool size: settling sets the others, whatever they say.
+// Takes the n owners from `owner` on out of the words below the pool size; settling sets the others, whatever they say.
 fn clear(frames: &mut [u32], pool: u32, owner: u32, n: u32)
     requires { ⌜ length (now frames) ≡ 4096 ⌝ }
     requires { ⌜ pool ≤ 4096 ⌝ }

@@ -49,14 +49,6 @@ module _ (opened : Bool) (fs : List ℕ) (F i w : ℕ) where
   unfolding pageFits
   says-fits n o = by-test opened (λ t. rw t o) (λ f. rw (f, n f) o)
 
-pub one-mapped : (w : ℕ) (m : Bool) → m ≡ mapped w → m ≡ true → 1 ≡ one-if (mapped w)
-unfolding one-if
-one-mapped w m e t = rw (← e, t)
-
-pub one-unmapped : (w : ℕ) (m : Bool) → m ≡ mapped w → m ≡ false → 0 ≡ one-if (mapped w)
-unfolding one-if
-one-unmapped w m e f = rw (← e, f)
-
 -- one space
 
 pub fits-start : (opened : Bool) (fs : List ℕ) (F a : ℕ) (ws : List ℕ) → length ws ≡ 1024 → every (pageFits opened fs F) a ws ≡ allFrom 1024 0 (λ p. pageFits opened fs F (a + p) (getD ws p 0))

@@ -14,9 +14,11 @@ use ranges::lawful::rest_fits;
 use ranges::lawful::step_fits;
 use ranges::page_words::frame_in;
 use ranges::page_words::mapped;
+use ranges::page_words::one_if_mapped;
 use ranges::walk::Stretch;
 use ranges::walk::goes_on;
 use ranges::walk::joined;
+use ranges::walk::least;
 use ranges::walk::over;
 use runs::Page;
 use words::scans::counts_beside;
@@ -36,15 +38,6 @@ fn unsound() -> Walked
     }
 }
 
-fn one_if_mapped(w: u32) -> u32
-    ensures { λ r. ⌜ r ≡ one-if (mapped w) ⌝ }
-{
-    if mapped(w) {
-        return 1;
-    }
-    0
-}
-
 // Whether page word w at place i of the page buffer is unmapped, or the space is open and the word of its frame names place i.
 fn page_fits(frames: &[u32], pool: u32, opened: bool, i: u32, w: u32) -> bool
     requires { ⌜ length (now frames) ≡ 4096 ⌝ }
@@ -57,17 +50,7 @@ fn page_fits(frames: &[u32], pool: u32, opened: bool, i: u32, w: u32) -> bool
     !mapped(w)
 }
 
-fn least(a: u32, b: u32) -> u32
-    ensures { λ r. ⌜ r ≤ a ⌝ }
-    ensures { λ r. ⌜ r ≤ b ⌝ }
-{
-    if a < b {
-        return a;
-    }
-    b
-}
-
-// How many pages from page b on go on the run of the mapped word w, with frames that are in the pool and have words that name them.
+// A number of pages from page b on that go on the run of the mapped word w, with frames that are in the pool and have words that name them. The promise leaves how many.
 fn onward_fitting(frames: &[u32], pool: u32, first: u32, part: &[u32], b: Page, w: u32) -> u32
     requires { ⌜ length (now frames) ≡ 4096 ⌝ }
     requires { ⌜ pool ≤ 4096 ⌝ }

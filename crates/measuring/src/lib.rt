@@ -17,6 +17,7 @@ use judging::right_lengths;
 use judging::tables_sound;
 use layout::Answer;
 use ranges::page_words::mapped;
+use ranges::page_words::one_if_mapped;
 use ranges::page_words::range_bit;
 
 // The first refusal that applies, or Done with zeros.
@@ -50,16 +51,6 @@ fn judge_coverage(
         first: 0,
         second: 0,
     }
-}
-
-// 1 for the word of a mapped page, 0 for any other.
-fn one_if_mapped(w: u32) -> u32
-    ensures { λ r. ⌜ r ≡ one-if (mapped w) ⌝ }
-{
-    if mapped(w) {
-        return 1;
-    }
-    0
 }
 
 // 1 for the word of a page in a range, 0 for any other.

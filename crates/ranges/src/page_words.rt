@@ -1,6 +1,7 @@
 // Page words and OFFSETs. Only here a frame number comes out of a page word, or out of a page number and an OFFSET.
 ghost use mathlib.Core.Path.{_≡_};
 ghost use Prim.Native.Nat.{_≤_};
+ghost use Rattle.words.specs.Counts.{one-if};
 ghost use Rattle.words.specs.Wrapping.{wrapAdd, wrapSub};
 ghost use Rattle.runs.specs.PageWords.{pageWord, mapped, rangeBit, rightsIn, frameIn};
 ghost use Rattle.runs.specs.Walk.{bitWord};
@@ -12,6 +13,16 @@ pub fn mapped(w: u32) -> bool
     ensures { λ r. ⌜ r ≡ mapped w ⌝ }
 {
     w / 65536 == 1
+}
+
+// 1 for the word of a mapped page, 0 for any other.
+pub fn one_if_mapped(w: u32) -> u32
+    ensures { λ r. ⌜ r ≡ one-if (mapped w) ⌝ }
+{
+    if mapped(w) {
+        return 1;
+    }
+    0
 }
 
 // The range bit of a mapped page.

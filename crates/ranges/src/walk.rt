@@ -46,7 +46,8 @@ pub fn goes_on(n: u32, v: u32, w: u32) -> u32
     0
 }
 
-fn least(a: u32, b: u32) -> u32
+// The smaller of two; all that is needed of it is that it is at most either.
+pub fn least(a: u32, b: u32) -> u32
     ensures { λ r. ⌜ r ≤ a ⌝ }
     ensures { λ r. ⌜ r ≤ b ⌝ }
 {

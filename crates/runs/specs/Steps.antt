@@ -1,4 +1,4 @@
--- What the inner functions of `ranges` promise: each a step of the walk over one space.
+-- What the inner functions of the crates above promise: each a step of the walk over one space.
 use mathlib.Core.Path.{_≡_}
 use mathlib.Core.Bool.{Bool, true, false}
 use mathlib.Core.List.{List, _++_}

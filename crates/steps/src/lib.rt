@@ -10,7 +10,7 @@ ghost use Rattle.layout.specs.Changes.{mapWords, unmapWords, mappedIn, protectW
 ghost use Rattle.steps.specs.Steps.{FrameNumbers, MapStep, UnmapStep, ProtectStep};
 use blocks::Frame;
 use ranges::page_words::frame_in;
-use ranges::page_words::mapped;
+use ranges::page_words::one_if_mapped;
 use ranges::page_words::page_word;
 use ranges::page_words::rights_in;
 use ranges::renew::renew;
@@ -44,16 +44,6 @@ pub fn map_space(part: &mut [u32], ranges: &mut [u32], first: Page, rights: u32,
 {
     write_frames(part, first, rights, frames);
     renew(part, ranges);
-}
-
-// 1 for the word of a mapped page, 0 for any other.
-fn one_if_mapped(w: u32) -> u32
-    ensures { λ r. ⌜ r ≡ one-if (mapped w) ⌝ }
-{
-    if mapped(w) {
-        return 1;
-    }
-    0
 }
 
 // Clears the words of the span; how many pages were mapped.

@@ -9,7 +9,7 @@ use Rattle.judging.proofs.walking.onward_fitting.Statement.{statement}
 use Rattle.judging.proofs.walking.onward_fitting.Tie as tie
 use Rattle.judging.proofs.walking.onward_fitting.Reads as reads
 use Rattle.judging.proofs.walking.onward_fitting.Lts as lts
-use Rattle.judging.proofs.walking.least.Reads as least-reads
+use Rattle.ranges.proofs.walk.least.Reads as least-reads
 use Rattle.ranges.proofs.page_words.frame_in.Reads as frame-in-reads
 use Rattle.words.proofs.scans.counts_beside.Reads as counts-beside-reads
 

@@ -17,7 +17,7 @@ use Rattle.judging.proofs.walking.walk_space.Statement.{statement}
 use Rattle.judging.proofs.walking.walk_space.Tie as tie
 use Rattle.judging.proofs.walking.walk_space.Reads as reads
 use Rattle.judging.proofs.walking.walk_space.Lts as lts
-use Rattle.judging.proofs.walking.one_if_mapped.Reads as one-if-mapped-reads
+use Rattle.ranges.proofs.page_words.one_if_mapped.Reads as one-if-mapped-reads
 use Rattle.judging.proofs.walking.over_fitting.Reads as over-fitting-reads
 use Rattle.judging.proofs.walking.page_fits.Reads as page-fits-reads
 use Rattle.judging.proofs.walking.unsound.Reads as unsound-reads

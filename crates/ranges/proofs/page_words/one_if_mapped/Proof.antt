@@ -1,20 +1,16 @@
 use borrow.Author.Needs.{needs}
-use Rattle.steps.proofs.one_if_mapped.Statement.{statement}
-use Rattle.steps.proofs.one_if_mapped.Tie as tie
+use Rattle.ranges.proofs.page_words.one_if_mapped.Statement.{statement}
+use Rattle.ranges.proofs.page_words.one_if_mapped.Tie as tie
 use mathlib.Core.Path.{refl, sym, _∙_}
-use Prim.Native.Nat.{_-_}
 use Rattle.words.specs.Counts.{one-if}
 
--- src/lib.rt:53:8
 mapped-requires : tie.Need-mapped-requires
 mapped-requires c κs = search needs
 
--- src/lib.rt:54:9
 returns : tie.Need-returns
 unfolding one-if
 returns c = rw (sym (c .before .mapped .ensures) ∙ c .if1 .taken) refl
 
--- src/lib.rt:50:1
 returns-2 : tie.Need-returns-2
 unfolding one-if
 returns-2 c = rw (sym (c .before .mapped .ensures) ∙ c .if1 .left) refl
