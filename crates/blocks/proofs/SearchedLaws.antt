@@ -21,7 +21,7 @@ use Rattle.blocks.specs.FrameWords.{freeIn, lawful}
 use Rattle.blocks.specs.Choice.{lowest, serving, isServed, orderFor, cutAt, takeFrom, takeOrder, takeBlock, without}
 use Rattle.blocks.specs.Around.{startOf, around}
 use Rattle.blocks.specs.Passes.{orderWithin, orderAt, least, asBlock, Clear, Searched, scanFrom, boundAfter}
-use Rattle.blocks.proofs.AroundLaws.{around-at, at-around, without-free}
+use Rattle.blocks.proofs.AroundLaws.{start-next, in-block, block-in, start-same, start-start, around-at, at-around, without-free}
 use Rattle.blocks.proofs.FreeBlockLaws.{BlockAt, free-block-at, at-free-block, in-block-at}
 use Rattle.blocks.proofs.WordLaws.{lawful-is, word-block, no-block}
 use Rattle.blocks.proofs.ChoiceLaws.{lowest-at, at-lowest, serving-at, at-serving, at-served, takeOrder-eq}
@@ -198,8 +198,19 @@ module _ (F : ℕ) (free : ℕ → Bool) (left : ℕ) where
 -- the scan for one order
 
 module _ (F : ℕ) (free : ℕ → Bool) (k f : ℕ) where
-  clear-more : Clear F free k f → freeBlock F free k f ≡ false → Clear F free k (f + 1)
-  clear-more c n = record { none-at = λ s h. by-dec (ℕ-discrete s f) (λ e. rw e n) (λ ne. c .none-at s (omega arith)) }
+  -- no block of order k starts inside the one at f
+  clear-more : Clear F free k f → startOf k f ≡ f → freeBlock F free k f ≡ false → Clear F free k (f + 2 ^ k)
+  clear-more c st n = record {
+    none-at = λ s h. by-dec (decLt s f)
+        (λ lt. c .none-at s lt)
+        (λ ge. by-test (freeBlock F free k s)
+        (λ t.
+        let own : startOf k s ≡ s = free-block-at F free k s t .aligned in
+        let one : startOf k s ≡ startOf k f = start-same k f s (block-in k f s (omega arith) (omega arith)) in
+        let same : s ≡ f = omega arith in
+        rw same n)
+        (λ t. t));
+  }
 
   clear-none : Clear F free k f → F ≤ f → lowest F free k ≡ none
   unfolding lowest
@@ -217,13 +228,19 @@ module _ (F : ℕ) (free : ℕ → Bool) (k f : ℕ) where
       go o e (found x lo hi t m) = let xf : x ≡ f = cc in record { none-at = λ s h. m s zero-le (omega arith) }
       go o e (missing m) = none-some f none refl e
 
--- the scan starts where nothing was missed
-pub scan-start : (F : ℕ) (free : ℕ → Bool) (x : Bound) (k s : ℕ) → Searched F free x → s ≡ scanFrom x k → Clear F free k s
+-- no free block of order k was missed below the frame from which it is scanned
+from-clear : (F : ℕ) (free : ℕ → Bool) (x : Bound) (k s : ℕ) → Searched F free x → s ≡ scanFrom x k → Clear F free k s
 unfolding scanFrom
-scan-start F free x k s known e =
+from-clear F free x k s known e =
     by-test (eqb k (x .limit))
     (λ t. let kl : k ≡ x .limit = eqb-true _ _ t in let sf : s ≡ x .from .0 = rw (t, scanFrom) at e in rw (kl, sf) (known .before))
     (λ t. let sz : s ≡ 0 = rw (t, scanFrom) at e in record { none-at = λ g h. absurd (omega arith) })
+
+-- the scan starts at the start of the block that holds this frame
+pub scan-start : (F : ℕ) (free : ℕ → Bool) (x : Bound) (k s f : ℕ) → Searched F free x → s ≡ scanFrom x k → f ≡ startOf k s → Clear F free k f × (startOf k f ≡ f)
+scan-start F free x k s f known e fe =
+    let low : startOf k s ≤ s = in-block k s s refl .0 in
+    (record { none-at = λ g h. from-clear F free x k s known e .none-at g (omega arith) }, rw fe (start-start k s))
 
 pub scan-same : (x : Bound) (k : ℕ) → k ≡ x .limit → x .from .0 ≡ scanFrom x k
 unfolding scanFrom
@@ -264,8 +281,10 @@ module _ (F : ℕ) (b : List ℕ) (lw : lawful F b ≡ true) (left : ℕ) (x : B
   pub chosen-none : None F (freeIn b) (x .limit) top t → t ≡ x .limit + 1 → block 11 0 ≡ asBlock (takeBlock F (freeIn b) left)
   chosen-none n e = as-none _ (no-order F (freeIn b) left (x .limit) top L cap (above-of F (freeIn b) x known) (within left L o) te (rw e at n))
 
-pub passed : (F : ℕ) (b : List ℕ) → lawful F b ≡ true → (k f : ℕ) → Clear F (freeIn b) k f → f < F → (getD b f 0 ≡ 16384 + k → ⊥) → Clear F (freeIn b) k (f + 1)
-passed F b lw k f cl h n = clear-more F (freeIn b) k f cl (no-block F b (lawful-is F b lw) k f h n)
+-- the scan goes one block on
+pub passed : (F : ℕ) (b : List ℕ) → lawful F b ≡ true → (k f z : ℕ) → z ≡ 2 ^ k → Clear F (freeIn b) k f × (startOf k f ≡ f) → f < F → (getD b f 0 ≡ 16384 + k → ⊥)
+    → Clear F (freeIn b) k (f + z) × (startOf k (f + z) ≡ f + z)
+passed F b lw k f z e (cl, st) h n = rw e (clear-more F (freeIn b) k f cl st (no-block F b (lawful-is F b lw) k f h n), start-next k f st)
 
 -- what is known after a block was taken
 

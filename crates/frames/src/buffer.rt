@@ -8,6 +8,7 @@ ghost use Rattle.words.specs.Counts.{one-if};
 ghost use Rattle.words.specs.Searches.{allFrom};
 ghost use Rattle.words.specs.Writes.{Filled, CountedUp};
 ghost use Rattle.blocks.specs.FrameWords.{ownerOf, freeIn};
+ghost use Rattle.blocks.specs.Around.{startOf};
 ghost use Rattle.blocks.specs.Passes.{HeldTo};
 
 // The owner that a frame word names, 0 for a free frame.
@@ -72,6 +73,14 @@ pub fn size_of(k: u32) -> u32
     ensures { λ r. ⌜ r ≡ 2 ^ k ⌝ }
 {
     1u32 << k
+}
+
+// The first frame of the block of order k that holds frame f.
+pub fn start_of(f: u32, k: u32) -> u32
+    requires { ⌜ k ≤ 10 ⌝ }
+    ensures { λ r. ⌜ r ≡ startOf k f ⌝ }
+{
+    (f >> k) << k
 }
 
 // Whether the frames from `from` up to `end` are free.

@@ -7,6 +7,8 @@ ghost use lib.ListN.{length};
 ghost use Rattle.blocks.specs.FrameWords.{freeIn, lawful};
 ghost use Rattle.blocks.specs.Choice.{takeBlock};
 ghost use Rattle.blocks.specs.Passes.{orderWithin, orderAt, least, asBlock, Searched, scanFrom, boundAfter};
+use crate::buffer::size_of;
+use crate::buffer::start_of;
 use blocks::Block;
 use blocks::Bound;
 use blocks::Frame;
@@ -77,7 +79,10 @@ pub fn choose(frames: &[u32], pool: u32, left: u32, known: Bound) -> Block
         for t in 0..limit + 1 {
             let k = order_at(limit, top, t);
             let from = scan_from(known, k);
-            for f in from..pool {
+            let size = size_of(k);
+            // A block of order k starts only at a multiple of its size.
+            let mut f = start_of(from, k);
+            while f < pool {
                 if frames[f as usize] == 16384 + k {
                     let order = least(k, top);
                     break 'search Block {
@@ -85,6 +90,7 @@ pub fn choose(frames: &[u32], pool: u32, left: u32, known: Bound) -> Block
                         order: order,
                     };
                 }
+                f += size;
             }
         }
         break Block {

@@ -12,6 +12,7 @@ use crate::buffer::all_free;
 use crate::buffer::fill;
 use crate::buffer::owner_of;
 use crate::buffer::size_of;
+use crate::buffer::start_of;
 use blocks::Frame;
 
 // Whether frame f is the start of a block of order k.
@@ -20,8 +21,7 @@ pub fn can_start(f: Frame, k: u32) -> bool
     requires { ⌜ k ≤ 10 ⌝ }
     ensures { λ r. ⌜ r ≡ eqb (startOf k (f .0)) (f .0) ⌝ }
 {
-    let at = f.0;
-    (at >> k) << k == at
+    start_of(f.0, k) == f.0
 }
 
 // Whether the wholly free block of order k at f is half of a wholly free one.
