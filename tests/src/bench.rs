@@ -4,17 +4,16 @@ use std::path::PathBuf;
 use std::process::{Command, Stdio};
 use std::time::Instant;
 
-/// Microseconds of a record, the fastest of five runs.
+/// How often each program runs. They run in turn, so that what else the machine does slows both.
+const ROUNDS: u32 = 15;
+
+/// Microseconds of a record, in one run.
 fn time(program: &PathBuf, words: &[&str], file: &PathBuf, records: f64) -> f64 {
-    (0..5)
-        .map(|_| {
-            let input = std::fs::File::open(file).unwrap();
-            let start = Instant::now();
-            let status = Command::new(program).args(words).stdin(input).stdout(Stdio::null()).status().unwrap();
-            assert!(status.success());
-            start.elapsed().as_secs_f64() * 1e6 / records
-        })
-        .fold(f64::INFINITY, f64::min)
+    let input = std::fs::File::open(file).unwrap();
+    let start = Instant::now();
+    let status = Command::new(program).args(words).stdin(input).stdout(Stdio::null()).status().unwrap();
+    assert!(status.success());
+    start.elapsed().as_secs_f64() * 1e6 / records
 }
 
 pub fn bench(records: u64) -> bool {
@@ -23,8 +22,11 @@ pub fn bench(records: u64) -> bool {
         let bytes = output(&reference(), &["gen", "1", &records.to_string(), style], &[]);
         let file = std::env::temp_dir().join(format!("compare-bench-{}-{style}", std::process::id()));
         std::fs::write(&file, &bytes).unwrap();
-        let ours = time(&coretrace(), &[], &file, records as f64);
-        let theirs = time(&reference(), &["run"], &file, records as f64);
+        let (mut ours, mut theirs) = (f64::INFINITY, f64::INFINITY);
+        for _ in 0..ROUNDS {
+            ours = ours.min(time(&coretrace(), &[], &file, records as f64));
+            theirs = theirs.min(time(&reference(), &["run"], &file, records as f64));
+        }
         std::fs::remove_file(&file).unwrap();
         println!("{style} {records} {ours:.1} {theirs:.1} {:.2}", ours / theirs);
     }
