@@ -11,7 +11,7 @@ use Rattle.control.specs.Control.{removals, recordFits, lawfulControl}
 use Rattle.control.proofs.ControlLaws.{lawful-says, used-exactly, used-says}
 use Rattle.history.specs.declared.Unit.{Unit as TlbUnit}
 use Rattle.history.specs.Units.{emptied}
-use Rattle.history.specs.CatchUp.{removalAt, dropped, applied, seenAll, caughtUp}
+use Rattle.history.specs.CatchUp.{removalAt, dropped, applied, seenAll, mostUnseen, tooFarBehind, caughtUp}
 
 -- a record of a lawful control buffer ends by page 1,023
 pub record-ends : (c : List ℕ) (m : ℕ) → lawfulControl c ≡ true → 1 ≤ m → m ≤ removals c → removalAt c m .first + removalAt c m .count ≤ 1024
@@ -37,14 +37,14 @@ applied-end c C m u h = let s : C - m ≡ 0 = omega arith in rw s
 -- catching up with C records
 module _ (c : List ℕ) (u : TlbUnit) (C : ℕ) (is : C ≡ removals c) where
   pub far-behind : 64 < C - u .seen → emptied C ≡ caughtUp c u
-  unfolding caughtUp
+  unfolding caughtUp tooFarBehind mostUnseen
   far-behind h =
-      let t : ltb 64 (removals c - u .seen) ≡ true = lt-ltb 64 (removals c - u .seen) (omega arith) in
+      let t : tooFarBehind c u ≡ true = lt-ltb mostUnseen (removals c - u .seen) (omega arith) in
       rw (is, t, caughtUp)
 
   pub near-behind : (v : TlbUnit) → C - u .seen ≤ 64 → v ≡ applied c (C - u .seen) (u .seen + 1) u
       → record { pages = v .pages; ranges = v .ranges; last = v .last; next = v .next; seen = C } ≡ caughtUp c u
-  unfolding caughtUp seenAll
+  unfolding caughtUp tooFarBehind mostUnseen seenAll
   near-behind v h e =
-      let t : ltb 64 (removals c - u .seen) ≡ false = le-ltb 64 (removals c - u .seen) (omega arith) in
+      let t : tooFarBehind c u ≡ false = le-ltb mostUnseen (removals c - u .seen) (omega arith) in
       rw (e, is, t, caughtUp)

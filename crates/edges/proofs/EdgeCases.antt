@@ -30,7 +30,7 @@ use Rattle.history.specs.declared.PageEntry.{PageEntry}
 use Rattle.history.specs.declared.RangeEntry.{RangeEntry}
 use Rattle.history.specs.declared.Unit.{Unit as TlbUnit}
 use Rattle.history.specs.Units.{noPage, noRange, emptied, frameBy, pageEntryOk, rangeEntryOk, lastOk, unitOk}
-use Rattle.history.specs.CatchUp.{removalAt, names, namesEntry, overlaps, keepPage, keepRange, keepLast, dropped, applied, seenAll, caughtUp}
+use Rattle.history.specs.CatchUp.{removalAt, names, namesEntry, overlaps, keepPage, keepRange, keepLast, dropped, applied, seenAll, mostUnseen, tooFarBehind, caughtUp}
 use Rattle.history.specs.Translate.{holdsPage, covers, coveringPlace, inWord, inRanges, finding, isFound, frameFound, rightsFound, wayFound, isAccess, allows, found, translateRefusals, translateAnswer}
 
 -- Calls
@@ -216,7 +216,7 @@ unfolding tabFrom tabulate imap part count one-if allFrom anyFrom every firstFro
     withWords setUpPlain openPlain takenFrames takenBlocks mapWord mapWords mapPlain
     isSpan spaceOpen mappedAt setUpRefusals setUpAnswer openRefusals openAnswer mapRefusals mapAnswer
     noPage noRange emptied frameBy pageEntryOk rangeEntryOk lastOk unitOk
-    removalAt names namesEntry overlaps keepPage keepRange keepLast dropped applied seenAll caughtUp
+    removalAt names namesEntry overlaps keepPage keepRange keepLast dropped applied seenAll mostUnseen tooFarBehind caughtUp
     holdsPage covers coveringPlace inWord inRanges finding isFound frameFound rightsFound wayFound isAccess allows found translateRefusals translateAnswer
     made zeroed setUp openSpace mapPages ready numbers said framesIn saidFrames saidRanges from
     logged pageEntry rangeEntry behind singly pageNumbers rangeNumbers unitNumbers withLog translated
