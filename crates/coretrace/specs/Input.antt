@@ -11,7 +11,7 @@ use Rattle.coretrace.specs.declared.input.Next.the-variants.{End, Cut, W
 
 -- the bytes of a window
 unfoldable pub waiting : Window → List ℕ → List ℕ
-waiting w space = take (w .to - w .from) (drop (w .from) space)
+waiting w buffer = take (w .to - w .from) (drop (w .from) buffer)
 
 -- the length of the record that the bytes begin with, its head too; 0 where they do not hold it whole
 unfoldable pub standing : List ℕ → ℕ
@@ -27,4 +27,4 @@ nextOf b = cond (eqb (length b) 0) End (cond (eqb (standing b) 0) Cut (Whole (me
 
 -- the window behind that record
 unfoldable pub behind : Window → List ℕ → Window
-behind w space = record { from = w .from + standing (waiting w space); to = w .to }
+behind w buffer = record { from = w .from + standing (waiting w buffer); to = w .to }

@@ -39,48 +39,48 @@ fn standing(bytes: &[u8]) -> usize
 }
 
 // Whether a whole record waits.
-pub fn ready(space: &[u8], w: Window) -> bool
+pub fn ready(buffer: &[u8], w: Window) -> bool
     requires { ⌜ w .from ≤ w .to ⌝ }
-    requires { ⌜ w .to ≤ length (now space) ⌝ }
-    ensures { λ r. ⌜ r ≡ ltb 0 (standing (waiting w (now (space .entry)))) ⌝ }
+    requires { ⌜ w .to ≤ length (now buffer) ⌝ }
+    ensures { λ r. ⌜ r ≡ ltb 0 (standing (waiting w (now (buffer .entry)))) ⌝ }
 {
     let a = w.from;
     let e = w.to;
-    0 < standing(&space[a..e])
+    0 < standing(&buffer[a..e])
 }
 
 // Moves the bytes from `from` up to `to` to the front.
-fn shift(space: &mut [u8], from: usize, to: usize)
+fn shift(buffer: &mut [u8], from: usize, to: usize)
     requires { ⌜ from ≤ to ⌝ }
-    requires { ⌜ to ≤ length (now space) ⌝ }
-    ensures { λ _. ⌜ now (space .exit) ≡ paste (now (space .entry)) 0 (drop from (now (space .entry))) (to - from) ⌝ }
+    requires { ⌜ to ≤ length (now buffer) ⌝ }
+    ensures { λ _. ⌜ now (buffer .exit) ≡ paste (now (buffer .entry)) 0 (drop from (now (buffer .entry))) (to - from) ⌝ }
 {
     for i in 0..to - from {
-        space[i] = space[from + i];
+        buffer[i] = buffer[from + i];
     }
 }
 
 // One read into the room behind the first `to` bytes; answers how many it gave.
-fn read_to(space: &mut [u8], to: usize) -> usize
-    requires { ⌜ to < length (now space) ⌝ }
-    ensures { λ r. ⌜ to + r ≤ length (now (space .entry)) ⌝ }
-    ensures { λ _. ⌜ take to (now (space .exit)) ≡ take to (now (space .entry)) ⌝ }
+fn read_to(buffer: &mut [u8], to: usize) -> usize
+    requires { ⌜ to < length (now buffer) ⌝ }
+    ensures { λ r. ⌜ to + r ≤ length (now (buffer .entry)) ⌝ }
+    ensures { λ _. ⌜ take to (now (buffer .exit)) ≡ take to (now (buffer .entry)) ⌝ }
 {
-    let got = libc::read(STDIN_FILENO, &mut space[to..]);
-    io::count(got, &space[to..])
+    let got = libc::read(STDIN_FILENO, &mut buffer[to..]);
+    io::count(got, &buffer[to..])
 }
 
 // Reads behind the first n bytes until a whole record stands at the front or a read gives nothing; answers how many bytes there are.
-fn read_on(space: &mut [u8], n: usize) -> usize
-    requires { ⌜ 65537 ≤ length (now space) ⌝ }
-    requires { ⌜ n ≤ length (now space) ⌝ }
+fn read_on(buffer: &mut [u8], n: usize) -> usize
+    requires { ⌜ 65537 ≤ length (now buffer) ⌝ }
+    requires { ⌜ n ≤ length (now buffer) ⌝ }
     ensures { λ r. ⌜ n ≤ r ⌝ }
-    ensures { λ r. ⌜ r ≤ length (now (space .entry)) ⌝ }
-    ensures { λ _. ⌜ take n (now (space .exit)) ≡ take n (now (space .entry)) ⌝ }
+    ensures { λ r. ⌜ r ≤ length (now (buffer .entry)) ⌝ }
+    ensures { λ _. ⌜ take n (now (buffer .exit)) ≡ take n (now (buffer .entry)) ⌝ }
 {
     let mut to = n;
-    while standing(&space[..to]) == 0 {
-        let got = read_to(space, to);
+    while standing(&buffer[..to]) == 0 {
+        let got = read_to(buffer, to);
         if got == 0 {
             break;
         }
@@ -90,20 +90,20 @@ fn read_on(space: &mut [u8], n: usize) -> usize
 }
 
 // Where no whole record waits, moves what waits to the front and reads on.
-pub fn fill(space: &mut [u8], w: Window) -> Window
-    requires { ⌜ 65537 ≤ length (now space) ⌝ }
+pub fn fill(buffer: &mut [u8], w: Window) -> Window
+    requires { ⌜ 65537 ≤ length (now buffer) ⌝ }
     requires { ⌜ w .from ≤ w .to ⌝ }
-    requires { ⌜ w .to ≤ length (now space) ⌝ }
+    requires { ⌜ w .to ≤ length (now buffer) ⌝ }
     ensures { λ r. ⌜ r .from ≤ r .to ⌝ }
-    ensures { λ r. ⌜ r .to ≤ length (now (space .entry)) ⌝ }
-    ensures { λ r. ⌜ take (w .to - w .from) (waiting r (now (space .exit))) ≡ waiting w (now (space .entry)) ⌝ }
-    ensures { λ r. ⌜ (0 < standing (waiting w (now (space .entry))) → (r ≡ w) × (now (space .exit) ≡ now (space .entry))) ⌝ }
+    ensures { λ r. ⌜ r .to ≤ length (now (buffer .entry)) ⌝ }
+    ensures { λ r. ⌜ take (w .to - w .from) (waiting r (now (buffer .exit))) ≡ waiting w (now (buffer .entry)) ⌝ }
+    ensures { λ r. ⌜ (0 < standing (waiting w (now (buffer .entry))) → (r ≡ w) × (now (buffer .exit) ≡ now (buffer .entry))) ⌝ }
 {
-    if ready(space, w) {
+    if ready(buffer, w) {
         return w;
     }
-    shift(space, w.from, w.to);
-    let to = read_on(space, w.to - w.from);
+    shift(buffer, w.from, w.to);
+    let to = read_on(buffer, w.to - w.from);
     Window { from: 0, to }
 }
 
@@ -131,28 +131,28 @@ fn next_of(bytes: &[u8]) -> Next
 }
 
 // What the bytes that wait give.
-pub fn fetch(space: &[u8], w: Window) -> Next
+pub fn fetch(buffer: &[u8], w: Window) -> Next
     requires { ⌜ w .from ≤ w .to ⌝ }
-    requires { ⌜ w .to ≤ length (now space) ⌝ }
-    ensures { λ r. ⌜ r ≡ nextOf (waiting w (now (space .entry))) ⌝ }
+    requires { ⌜ w .to ≤ length (now buffer) ⌝ }
+    ensures { λ r. ⌜ r ≡ nextOf (waiting w (now (buffer .entry))) ⌝ }
 {
     let a = w.from;
     let e = w.to;
-    next_of(&space[a..e])
+    next_of(&buffer[a..e])
 }
 
 // What waits behind the record that `fetch` gives.
-pub fn rest(space: &[u8], w: Window) -> Window
+pub fn rest(buffer: &[u8], w: Window) -> Window
     requires { ⌜ w .from ≤ w .to ⌝ }
-    requires { ⌜ w .to ≤ length (now space) ⌝ }
-    ensures { λ r. ⌜ r ≡ behind w (now (space .entry)) ⌝ }
+    requires { ⌜ w .to ≤ length (now buffer) ⌝ }
+    ensures { λ r. ⌜ r ≡ behind w (now (buffer .entry)) ⌝ }
     ensures { λ r. ⌜ r .from ≤ r .to ⌝ }
-    ensures { λ r. ⌜ r .to ≤ length (now (space .entry)) ⌝ }
+    ensures { λ r. ⌜ r .to ≤ length (now (buffer .entry)) ⌝ }
 {
     let a = w.from;
     let e = w.to;
     Window {
-        from: a + standing(&space[a..e]),
+        from: a + standing(&buffer[a..e]),
         to: e,
     }
 }

@@ -19,10 +19,10 @@ fn run(
     frames: &mut [u32],
     pages: &mut [u32],
     ranges: &mut [u32],
-    space: &mut [u8],
+    buffer: &mut [u8],
     lines: &mut [u8],
 ) -> usize
-    requires { ⌜ 65537 ≤ length (now space) ⌝ }
+    requires { ⌜ 65537 ≤ length (now buffer) ⌝ }
     requires { ⌜ 105 ≤ length (now lines) ⌝ }
     ensures { λ r. ⌜ r ≤ length (now (lines .entry)) ⌝ }
 {
@@ -31,14 +31,14 @@ fn run(
     let mut held = 0;
     for number in 1..LAST {
         // where no record is ready, `fill` reads and may wait: the lines go out before
-        held = output::settle(input::ready(space, window), lines, held);
-        window = input::fill(space, window);
-        let m = match input::fetch(space, window) {
+        held = output::settle(input::ready(buffer, window), lines, held);
+        window = input::fill(buffer, window);
+        let m = match input::fetch(buffer, window) {
             Next::End => return held,
             Next::Cut => return output::line(number, 0, trace::malformed(), lines, held),
             Next::Whole(m) => m,
         };
-        window = input::rest(space, window);
+        window = input::rest(buffer, window);
         if trace::needs_unit(m) {
             let a = answer_on(number, m, pair, control, frames, pages, ranges, lines, held);
             held = a.held;
@@ -60,14 +60,14 @@ fn main() {
     let mut frames = [0u32; 4096];
     let mut pages = [0u32; 4096];
     let mut ranges = [0u32; 2048];
-    let mut space = [0u8; 131072];
+    let mut buffer = [0u8; 131072];
     let mut lines = [0u8; 65536];
     let held = run(
         &mut control,
         &mut frames,
         &mut pages,
         &mut ranges,
-        &mut space,
+        &mut buffer,
         &mut lines,
     );
     output::send(&lines, held);

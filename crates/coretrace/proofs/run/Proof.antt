@@ -20,10 +20,10 @@ use Rattle.trace.proofs.malformed.Reads as malformed-reads
 use Rattle.trace.proofs.needs_unit.Reads as needs-unit-reads
 
 abbrev Inv-loop : tie.InvT-loop
-Inv-loop control₀ frames₀ pages₀ ranges₀ space₀ lines₀ pair₀ window₀ held₀ number₀ control frames pages ranges space lines pair window held number = (length control ≡ length control₀) × ((length frames ≡ length frames₀) × ((length pages ≡ length pages₀) × ((length ranges ≡ length ranges₀) × ((length space ≡ length space₀) × ((length lines ≡ length lines₀) × ((window .from ≤ window .to) × ((window .to ≤ length space₀) × ((held ≤ length lines₀) × (number ≤ 18446744073709551615)))))))))
+Inv-loop control₀ frames₀ pages₀ ranges₀ buffer₀ lines₀ pair₀ window₀ held₀ number₀ control frames pages ranges buffer lines pair window held number = (length control ≡ length control₀) × ((length frames ≡ length frames₀) × ((length pages ≡ length pages₀) × ((length ranges ≡ length ranges₀) × ((length buffer ≡ length buffer₀) × ((length lines ≡ length lines₀) × ((window .from ≤ window .to) × ((window .to ≤ length buffer₀) × ((held ≤ length lines₀) × (number ≤ 18446744073709551615)))))))))
 
 abbrev μ-loop : tie.MeasureT-loop
-μ-loop control₀ frames₀ pages₀ ranges₀ space₀ lines₀ pair₀ window₀ held₀ number₀ control frames pages ranges space lines pair window held number = 18446744073709551615 - number
+μ-loop control₀ frames₀ pages₀ ranges₀ buffer₀ lines₀ pair₀ window₀ held₀ number₀ control frames pages ranges buffer lines pair window held number = 18446744073709551615 - number
 
 -- src/main.rt:29:9
 fresh-units-requires : tie.Need-fresh-units-requires Inv-loop μ-loop

@@ -23,7 +23,7 @@ same-length c = search needs
 
 -- src/input.rt:103:9
 returns : tie.Need-returns
-returns c = (omega arith, (omega arith, (as-before (c .before .before .before .before .args .w) (c .before .before .before .before .args .space .now), λ h. (refl, refl))))
+returns c = (omega arith, (omega arith, (as-before (c .before .before .before .before .args .w) (c .before .before .before .before .args .buffer .now), λ h. (refl, refl))))
 
 -- src/input.rt:105:5
 shift-requires : tie.Need-shift-requires
@@ -45,12 +45,12 @@ same-length-2 c = search needs
 returns-2 : tie.Need-returns-2
 returns-2 c =
     let a = c .before .before .before .before .before .before .before .before .before .before .before .before .before .args in
-    let none : standing (waiting (a .w) (a .space .now)) ≤ 0 = ltb-false _ _ (sym (c .before .before .before .before .before .before .before .before .before .before .ready .ensures) ∙ c .before .before .before .before .before .before .before .before .before .if1 .left) in (
+    let none : standing (waiting (a .w) (a .buffer .now)) ≤ 0 = ltb-false _ _ (sym (c .before .before .before .before .before .before .before .before .before .before .ready .ensures) ∙ c .before .before .before .before .before .before .before .before .before .if1 .left) in (
       omega arith,
       (
         omega (arith, c .before .before .read-on .ensures .1 .0),
         (
-          moved (a .w) (a .space .now) _ _ (c .before .before .read-on .result) (omega arith) (omega (arith, c .before .before .read-on .ensures .0)) (c .before .before .before .before .before .before .before .shift .ensures) (c .before .before .read-on .ensures .1 .1),
+          moved (a .w) (a .buffer .now) _ _ (c .before .before .read-on .result) (omega arith) (omega (arith, c .before .before .read-on .ensures .0)) (c .before .before .before .before .before .before .before .shift .ensures) (c .before .before .read-on .ensures .1 .1),
           λ h. absurd (omega (arith, none, h)),
         ),
       ),

@@ -13,10 +13,10 @@ use Rattle.coretrace.proofs.input.read_to.Reads as read-to-reads
 use Rattle.coretrace.proofs.input.standing.Reads as standing-reads
 
 abbrev Inv-loop : tie.InvT-loop
-Inv-loop space₀ n to₀ space to = (length space ≡ length space₀) × ((n ≤ to) × ((to ≤ length space) × (take n space ≡ take n space₀)))
+Inv-loop buffer₀ n to₀ buffer to = (length buffer ≡ length buffer₀) × ((n ≤ to) × ((to ≤ length buffer) × (take n buffer ≡ take n buffer₀)))
 
 abbrev μ-loop : tie.MeasureT-loop
-μ-loop space₀ n to₀ space to = length space₀ - to
+μ-loop buffer₀ n to₀ buffer to = length buffer₀ - to
 
 -- src/input.rt:82:5
 loop-holds : tie.Need-loop-holds Inv-loop μ-loop
@@ -28,7 +28,7 @@ slice-reshare-prefix-standing c = search needs
 
 -- src/input.rt:82:20
 slice-aggregate-standing : tie.Need-slice-aggregate-standing Inv-loop μ-loop
-slice-aggregate-standing c = sym (length-take-le (c .before .loop .to) (c .before .loop .space) (omega arith))
+slice-aggregate-standing c = sym (length-take-le (c .before .loop .to) (c .before .loop .buffer) (omega arith))
 
 -- src/input.rt:82:11
 standing-requires : tie.Need-standing-requires Inv-loop μ-loop
@@ -37,7 +37,7 @@ standing-requires c κs = search needs
 -- src/input.rt:83:13
 read-to-requires : tie.Need-read-to-requires Inv-loop μ-loop
 read-to-requires c κs =
-    let e : length (take (c .before .before .before .before .loop .to) (c .before .before .before .before .loop .space)) ≡ c .before .before .before .before .loop .to = length-take-le (c .before .before .before .before .loop .to) (c .before .before .before .before .loop .space) (omega arith) in
+    let e : length (take (c .before .before .before .before .loop .to) (c .before .before .before .before .loop .buffer)) ≡ c .before .before .before .before .loop .to = length-take-le (c .before .before .before .before .loop .to) (c .before .before .before .before .loop .buffer) (omega arith) in
     let s = c .before .before .standing .ensures .1 .1 (c .before .if1 .taken) in
     omega arith
 
@@ -53,7 +53,7 @@ loop-less c = search needs
 loop-again : tie.Need-loop-again Inv-loop μ-loop
 loop-again c = (
   omega arith,
-  (omega arith, (omega arith, shorter (c .before .before .before .before .before .before .before .before .before .before .args .n) (c .before .before .before .before .before .before .before .before .loop .to) (c .before .before .before .before .before .before .before .before .loop .space) _ (omega arith) (c .before .before .before .read-to .ensures .1) ∙ c .before .before .before .before .before .before .before .before .loop .inv .1 .1 .1)),
+  (omega arith, (omega arith, shorter (c .before .before .before .before .before .before .before .before .before .before .args .n) (c .before .before .before .before .before .before .before .before .loop .to) (c .before .before .before .before .before .before .before .before .loop .buffer) _ (omega arith) (c .before .before .before .read-to .ensures .1) ∙ c .before .before .before .before .before .before .before .before .loop .inv .1 .1 .1)),
 )
 
 -- src/input.rt:74:1
@@ -70,7 +70,7 @@ same-length-2 c = search needs
 
 -- src/input.rt:74:1
 returns-2 : tie.Need-returns-2 Inv-loop μ-loop
-returns-2 c = (c .before .before .before .before .before .before .before .before .loop .inv .1 .0, (omega arith, shorter (c .before .before .before .before .before .before .before .before .before .before .args .n) (c .before .before .before .before .before .before .before .before .loop .to) (c .before .before .before .before .before .before .before .before .loop .space) _ (omega arith) (c .before .before .before .read-to .ensures .1) ∙ c .before .before .before .before .before .before .before .before .loop .inv .1 .1 .1))
+returns-2 c = (c .before .before .before .before .before .before .before .before .loop .inv .1 .0, (omega arith, shorter (c .before .before .before .before .before .before .before .before .before .before .args .n) (c .before .before .before .before .before .before .before .before .loop .to) (c .before .before .before .before .before .before .before .before .loop .buffer) _ (omega arith) (c .before .before .before .read-to .ensures .1) ∙ c .before .before .before .before .before .before .before .before .loop .inv .1 .1 .1))
 
 pub read-on-spec : {M : Type 1} → statement M
 read-on-spec =

@@ -48,7 +48,7 @@ same-length c = search needs
 
 -- src/input.rt:64:1
 returns : tie.Need-returns
-returns c = (omega arith, take-put (c .before .before .before .before .before .before .before .before .args .to) (length (c .before .before .before .before .before .before .before .before .args .space .now) - c .before .before .before .before .before .before .before .before .args .to) (c .before .before .before .before .before .before .before .before .args .space .now) (c .before .before .before .before .before .read .last .1 .0) (omega arith))
+returns c = (omega arith, take-put (c .before .before .before .before .before .before .before .before .args .to) (length (c .before .before .before .before .before .before .before .before .args .buffer .now) - c .before .before .before .before .before .before .before .before .args .to) (c .before .before .before .before .before .before .before .before .args .buffer .now) (c .before .before .before .before .before .read .last .1 .0) (omega arith))
 
 pub read-to-spec : {M : Type 1} → statement M
 read-to-spec =

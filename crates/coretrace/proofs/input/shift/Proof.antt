@@ -12,10 +12,10 @@ use Rattle.coretrace.proofs.input.shift.Reads as reads
 use Rattle.coretrace.proofs.input.shift.Lts as lts
 
 abbrev Inv-loop : tie.InvT-loop
-Inv-loop space₀ from to i₀ i-end space i = (length space ≡ length space₀) × ((i-end ≡ to - from) × ((i ≤ i-end) × (space ≡ paste space₀ 0 (drop from space₀) i)))
+Inv-loop buffer₀ from to i₀ i-end buffer i = (length buffer ≡ length buffer₀) × ((i-end ≡ to - from) × ((i ≤ i-end) × (buffer ≡ paste buffer₀ 0 (drop from buffer₀) i)))
 
 abbrev μ-loop : tie.MeasureT-loop
-μ-loop space₀ from to i₀ i-end space i = i-end - i
+μ-loop buffer₀ from to i₀ i-end buffer i = i-end - i
 
 -- src/input.rt:58:17
 sub-i-end : tie.Need-sub-i-end Inv-loop μ-loop
@@ -25,19 +25,19 @@ sub-i-end c = search needs
 loop-holds : tie.Need-loop-holds Inv-loop μ-loop
 loop-holds c =
     let a = c .args in
-    (refl, (refl, (omega arith, paste-zero (a .space .now) 0 (drop (a .from) (a .space .now)))))
+    (refl, (refl, (omega arith, paste-zero (a .buffer .now) 0 (drop (a .from) (a .buffer .now)))))
 
 -- src/input.rt:59:26
-add-space : tie.Need-add-space Inv-loop μ-loop
-add-space c = search needs
+add-buffer : tie.Need-add-buffer Inv-loop μ-loop
+add-buffer c = search needs
 
 -- src/input.rt:59:20
-slice-read-space : tie.Need-slice-read-space Inv-loop μ-loop
-slice-read-space c = search needs
+slice-read-buffer : tie.Need-slice-read-buffer Inv-loop μ-loop
+slice-read-buffer c = search needs
 
 -- src/input.rt:59:9
-slice-write-space : tie.Need-slice-write-space Inv-loop μ-loop
-slice-write-space c = search needs
+slice-write-buffer : tie.Need-slice-write-buffer Inv-loop μ-loop
+slice-write-buffer c = search needs
 
 -- src/input.rt:58:9
 add-i : tie.Need-add-i Inv-loop μ-loop
@@ -57,7 +57,7 @@ loop-again c =
         l .inv .1 .0,
         (
           omega arith,
-          ap (λ (d : List ℕ). set d (l .i) (getD d (a .from + l .i) 0)) (l .inv .1 .1 .1) ∙ one-more (a .space .now) (a .from) (l .i) (omega arith),
+          ap (λ (d : List ℕ). set d (l .i) (getD d (a .from + l .i) 0)) (l .inv .1 .1 .1) ∙ one-more (a .buffer .now) (a .from) (l .i) (omega arith),
         ),
       ),
     )
@@ -72,7 +72,7 @@ returns c =
     let l = c .before .loop in
     let a = c .before .before .args in
     let all : l .i ≡ a .to - a .from = omega arith in
-    l .inv .1 .1 .1 ∙ ap (paste (a .space .now) 0 (drop (a .from) (a .space .now))) all
+    l .inv .1 .1 .1 ∙ ap (paste (a .buffer .now) 0 (drop (a .from) (a .buffer .now))) all
 
 pub shift-spec : {M : Type 1} → statement M
 shift-spec =
@@ -82,9 +82,9 @@ shift-spec =
     μ-loop
     sub-i-end
     loop-holds
-    add-space
-    slice-read-space
-    slice-write-space
+    add-buffer
+    slice-read-buffer
+    slice-write-buffer
     add-i
     loop-less
     loop-again
