@@ -14,7 +14,7 @@ use Rattle.words.specs.Refusals.{Refusal, decide}
 use Rattle.words.proofs.Cases.{by-test, by-dec, and-true, true-and}
 use Rattle.words.proofs.CountLaws.{count-mono}
 use Rattle.words.proofs.RefusalLaws.{refused, passed, decided}
-use Rattle.blocks.specs.declared.Outcome.{Outcome}
+use Rattle.words.specs.declared.Outcome.{Outcome}
 use Rattle.blocks.specs.declared.Reply.{Reply}
 use Rattle.blocks.specs.declared.Reply.the-variants.{Done, WrongLength, Unlawful, WrongPoolSize, WrongSpan, AlreadyHeld, NotHeld, TooFewFrames}
 use Rattle.blocks.specs.FrameWords.{isPoolSize, ownersOf, freeIn, lawful, frameWords}

@@ -11,7 +11,7 @@ use lib.ListN.{length}
 use Rattle.words.specs.Counts.{count}
 use Rattle.words.specs.Searches.{allFrom, anyFrom}
 use Rattle.words.specs.Refusals.{Refusal, decide}
-use Rattle.blocks.specs.declared.Outcome.{Outcome}
+use Rattle.words.specs.declared.Outcome.{Outcome}
 use Rattle.blocks.specs.declared.Reply.{Reply}
 use Rattle.blocks.specs.declared.Reply.the-variants.{Done, WrongLength, Unlawful, WrongPoolSize, WrongSpan, AlreadyHeld, NotHeld, TooFewFrames}
 use Rattle.blocks.specs.FrameWords.{isPoolSize, ownersOf, freeIn, lawful, frameWords}

@@ -15,13 +15,6 @@ pub struct Bound {
     pub from: Frame,
 }
 
-// An answer as document 01 counts it: its number, first and second value.
-pub struct Outcome {
-    pub number: u32,
-    pub first: u32,
-    pub second: u32,
-}
-
 // What a call on the pool answers: its first value, or why it is refused.
 pub enum Reply {
     Done(u32),

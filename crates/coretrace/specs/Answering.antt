@@ -3,7 +3,7 @@ use mathlib.Core.Path.{_≡_}
 use mathlib.Core.List.{List}
 use Prim.Native.Nat.{ℕ, _+_}
 use lib.ListN.{length}
-use Rattle.blocks.specs.declared.Outcome.{Outcome}
+use Rattle.words.specs.declared.Outcome.{Outcome}
 use Rattle.layout.specs.Tables.{Tables}
 use Rattle.trace.specs.declared.Meaning.{Meaning}
 use Rattle.trace.specs.declared.TwoUnits.{TwoUnits}

@@ -5,8 +5,8 @@ ghost use Prim.Native.Nat.{_+_, _≤_};
 ghost use lib.ListN.{length};
 ghost use Rattle.trace.specs.Lines.{written, line};
 ghost use Rattle.coretrace.specs.Output.{placed};
-use blocks::Outcome;
 use libc::STDOUT_FILENO;
+use words::Outcome;
 
 pub fn header() {
     io::write_all(STDOUT_FILENO, b"record kind answer first second\n");

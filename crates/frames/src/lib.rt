@@ -20,8 +20,8 @@ use crate::freeing::count_free;
 use crate::freeing::release;
 use crate::settling::fresh;
 use crate::taking::take_frames;
-use blocks::Outcome;
 use blocks::Reply;
+use words::Outcome;
 
 // The number, first and second value of an answer.
 pub fn outcome(r: Reply) -> Outcome
