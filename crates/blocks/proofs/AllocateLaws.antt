@@ -21,11 +21,11 @@ use Rattle.blocks.specs.declared.Block.{Block}
 use Rattle.blocks.specs.declared.Bound.{Bound}
 use Rattle.blocks.specs.Blocks.{inBlock}
 use Rattle.blocks.specs.FrameWords.{ownersOf, freeOf, freeIn, lawful, frameWords}
-use Rattle.blocks.specs.Choice.{takeBlock, without, takeBlocks, framesOf, blocksFor, framesFor, blockCount}
+use Rattle.blocks.specs.Choice.{takeBlock, without, leftAfter, takeBlocks, framesOf, blocksFor, framesFor, blockCount}
 use Rattle.blocks.specs.Owners.{put, give}
 use Rattle.blocks.specs.Calls.{Taken}
-use Rattle.blocks.specs.Around.{startOf}
-use Rattle.blocks.specs.Passes.{asBlock, Searched, boundAfter, Begins, handed}
+use Rattle.blocks.specs.Inner.Around.{startOf}
+use Rattle.blocks.specs.Inner.Passes.{asBlock, Searched, boundAfter, Begins, handed}
 use Rattle.blocks.proofs.AroundLaws.{in-block}
 use Rattle.blocks.proofs.WordLaws.{owners-small, lawful-is, lawful-yes, lawful-table, owners-high, owners-again, table-lawful, block-word}
 use Rattle.blocks.proofs.ChoiceLaws.{Took, Taking, taking, one, end, took-free, took-start, took-count, fuel}
@@ -145,16 +145,16 @@ module _ (F : ℕ) (b : List ℕ) (lw : lawful F b ≡ true) (left : ℕ) (x : B
   step-order = let w = st .took in let a = w .below in let c = w .from .maximal .small in omega arith
 
   -- the block, and then the blocks of the rest
-  step-all : blocksFor F (freeIn b) left ≡ x ∷ blocksFor F (without (freeIn b) (x .order) (x .start .0)) (left - 2 ^ (x .order))
+  step-all : blocksFor F (freeIn b) left ≡ x ∷ blocksFor F (without (freeIn b) (x .order) (x .start .0)) (leftAfter left x)
   unfolding blocksFor takeBlocks
   step-all =
       let w = st .took in
       let fits = w .fits in
       let pos : 0 < 2 ^ (x .order) = pow-pos (x .order) in
       let e : left ≡ suc (left - 1) = omega arith in
-      let a : takeBlocks (suc (left - 1)) F (freeIn b) left ≡ x ∷ takeBlocks (left - 1) F (without (freeIn b) (x .order) (x .start .0)) (left - 2 ^ (x .order)) = rw (st .is, takeBlocks) in
+      let a : takeBlocks (suc (left - 1)) F (freeIn b) left ≡ x ∷ takeBlocks (left - 1) F (without (freeIn b) (x .order) (x .start .0)) (leftAfter left x) = rw (st .is, takeBlocks) in
       ap (λ (n : ℕ). takeBlocks n F (freeIn b) left) e ∙ a
-      ∙ ap {B = List Block} (λ r. x ∷ r) (fuel (left - 1) (left - 2 ^ (x .order)) F (without (freeIn b) (x .order) (x .start .0)) (left - 2 ^ (x .order)) (omega arith) (omega arith))
+      ∙ ap {B = List Block} (λ r. x ∷ r) (fuel (left - 1) (leftAfter left x) F (without (freeIn b) (x .order) (x .start .0)) (leftAfter left x) (omega arith) (omega arith))
 
   module _ (o : ℕ) (pos : 1 ≤ o) (room : o + left ≤ 4097) where
     starts : startOf (x .order) (x .start .0) ≡ x .start .0
@@ -239,7 +239,7 @@ going-on F b₀ o n b out done blocks known next x z b′ out′ w lt pos room s
       len = olen ∙ w .len;
       enough = rw fr (omega (arith, took-count F (freeIn b) (n - done) x (st .took), w .enough));
       few = omega (arith, w .few, ze, pow-pos (x .order));
-      blocks-are = w .blocks-are ∙ ap (λ (r : List Block). blocks + length r) all ∙ (omega arith);
+      blocks-are = omega (arith, w .blocks-are, ap length all);
       frames-are = w .frames-are ∙ ap (λ (r : List Block). take done out ++ framesOf r) all
           ∙ ap (λ (r : List ℕ). take done out ++ r) (frames-cons x rest)
           ∙ sym (append-assoc (take done out) (own (x .order) (x .start .0)) (framesOf rest))

@@ -14,7 +14,7 @@ use Rattle.words.proofs.Cases.{by-test, by-dec, true-false, and-true, true-and}
 use Rattle.words.proofs.SearchLaws.{allFrom-at, at-allFrom, largest-is, Largest, greatest, nothing, largest-ext, largest-unique}
 use Rattle.blocks.specs.Blocks.{inBlock}
 use Rattle.blocks.specs.Choice.{without}
-use Rattle.blocks.specs.Around.{startOf, around, freeOrder}
+use Rattle.blocks.specs.Inner.Around.{startOf, around, freeOrder}
 
 -- sizes
 

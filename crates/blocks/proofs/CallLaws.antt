@@ -1,37 +1,30 @@
 -- The pool's calls, way out by way out: what each answers and leaves.
 use mathlib.Core.Path.{_≡_, refl, ap, _∙_, sym}
-use mathlib.Core.Bool.{Bool, true, false, _&&_, not}
-use mathlib.Core.List.{List, [], _∷_}
+use mathlib.Core.Bool.{true, false, _&&_, not}
+use mathlib.Core.List.{List, []}
 use Prim.Native.Nat.{ℕ, _+_, _-_, _<_, _≤_}
-use native.Mathlib.Decide.{ℕ-discrete}
 use native.Mathlib.Omega.{arith}
-use lib.Dec.{eqb, leb, ltb}
+use lib.Dec.{leb}
 use lib.ListN.{length}
-use borrow.Author.Tests.{leb-true, le-leb, eq-eqb, ne-eqb, lt-ltb, le-ltb}
+use borrow.Author.Tests.{leb-true, le-leb, eq-eqb, ne-eqb, lt-ltb, le-ltb, not-false}
+use Rattle.words.specs.declared.Outcome.{Outcome}
 use Rattle.words.specs.Counts.{count}
 use Rattle.words.specs.Searches.{allFrom, anyFrom}
-use Rattle.words.specs.Refusals.{Refusal, decide}
-use Rattle.words.proofs.Cases.{by-test, by-dec, and-true, true-and}
+use Rattle.words.specs.Refusals.{Refusal, numbers, Applies, here, later, NoneApplies, done, next}
+use Rattle.words.specs.Rows.{refusal, values, numberOf, Exactly, refusalOrder, among, inOrder}
+use Rattle.words.proofs.Cases.{by-test, and-true, true-and, true-false}
 use Rattle.words.proofs.CountLaws.{count-mono}
-use Rattle.words.proofs.RefusalLaws.{refused, passed, decided}
-use Rattle.words.specs.declared.Outcome.{Outcome}
-use Rattle.blocks.specs.declared.Reply.{Reply}
+use Rattle.words.proofs.RefusalLaws.{applies-answers}
+use Rattle.words.proofs.RowLaws.{renewed, accepted-is, none-number, refused-zeros, promised-exactly, refused-call}
 use Rattle.blocks.specs.declared.Reply.the-variants.{Done, WrongLength, Unlawful, WrongPoolSize, WrongSpan, AlreadyHeld, NotHeld, TooFewFrames}
+use Rattle.blocks.specs.declared.PoolCall.{PoolCall}
+use Rattle.blocks.specs.declared.PoolCall.the-variants.{SetUp, Check, Count, Allocate, Free}
 use Rattle.blocks.specs.FrameWords.{isPoolSize, ownersOf, freeIn, lawful, frameWords}
-use Rattle.blocks.specs.Choice.{framesFor}
-use Rattle.blocks.specs.Owners.{give, freed, holds}
-use Rattle.blocks.specs.Calls.{outcome, leaves, inOwners, wrongSpan, judged, setUpReply, SetUp, checkReply, countReply, allocateReply, Allocated, Taken, freedWords, freeReply, Freed}
+use Rattle.blocks.specs.Owners.{freed, holds}
+use Rattle.blocks.specs.Calls.{outcome, PoolWords, lent, inOwners, judged, Taken, freedWords, row, Called}
+use Rattle.blocks.specs.Statements.{LowestFirst}
 use Rattle.blocks.proofs.WordLaws.{owners-small, free-zero, at-free, lawful-is, owners-high, owners-again, size-at, at-size}
 use Rattle.blocks.proofs.FreeLaws.{freed-small, freed-zero}
-
--- what is left, by the answer
-stays : {A : Type 0} (r : Reply) (new old : A) → (outcome r .number ≡ 0 → ⊥) → old ≡ leaves r new old
-unfolding leaves
-stays r new old n = rw (ne-eqb _ _ n, leaves)
-
-taken : {A : Type 0} (r : Reply) (new old : A) → outcome r .number ≡ 0 → new ≡ leaves r new old
-unfolding leaves
-taken r new old z = rw (eq-eqb _ _ z, leaves)
 
 -- sizes and spans as the code tests them
 
@@ -53,216 +46,176 @@ pub owners-end : (o n : ℕ) → 1 ≤ n → 1 ≤ o → leb (o + n) 4097 ≡ in
 unfolding inOwners
 owners-end o n hn ho = rw (le-leb 1 n hn, le-leb 1 o ho)
 
+-- the promise of a call from what its code knows
+
+pub lowest-first : LowestFirst
+unfolding LowestFirst row inOrder refusalOrder among numbers
+lowest-first (SetUp F) P = refl
+lowest-first (Check F) P = refl
+lowest-first (Count F) P = refl
+lowest-first (Allocate F o) P = refl
+lowest-first (Free F o n) P = refl
+
+module _ (c : PoolCall) (P : PoolWords) where
+  refuses-with : (o : Outcome) → o ≡ refusal (o .number) → (o .number ≡ 0 → ⊥) → Applies (o .number) (row P c .refusals) → Called c P o P
+  unfolding numberOf LowestFirst
+  refuses-with o z n w = refused-call (row P c) (lowest-first c P) P o o (z ∙ ap refusal (sym (applies-answers _ _ w))) refl n
+
+  -- a refusal, given by its number
+  refuses : (n : ℕ) → 1 ≤ n → Applies n (row P c .refusals) → Called c P (refusal n) P
+  refuses n pos w = refuses-with (refusal n) refl (λ z. omega arith) w
+
+  accepts : (v : ℕ) (P′ : PoolWords) → NoneApplies (row P c .refusals) → v ≡ row P c .first → row P c .second ≡ 0 → P′ ≡ row P c .new → Called c P (outcome (Done v)) P′
+  accepts v P′ w e z new =
+      let k = none-number (row P c) w in
+      let q : values v 0 ≡ values (row P c .first) (row P c .second) = cc in
+      record { answers = q ∙ sym (accepted-is (row P c) k); leaves-new = new ∙ renewed (numberOf (row P c)) (row P c .new) P k }
+
 -- set up
 
 module _ (F : ℕ) (b : List ℕ) where
-  setUp-by : (r : Reply) (b′ : List ℕ) → r ≡ setUpReply F b → b′ ≡ leaves r (frameWords F (λ g. 0)) b → SetUp F b r b′
-  setUp-by r b′ e w = record { answers = e; words = w ∙ ap (λ (x : Reply). leaves x (frameWords F (λ g. 0)) b) e }
-
-  pub setUp-length : (length b ≡ 4096 → ⊥) → SetUp F b WrongLength b
-  unfolding setUpReply
-  setUp-length n = setUp-by WrongLength b (sym (refused (not (eqb (length b) 4096)) WrongLength _ _ (ap not (ne-eqb _ _ n)))) (stays WrongLength _ b (λ z. omega arith))
+  pub set-up-length : (length b ≡ 4096 → ⊥) → Called (SetUp F) (lent b []) (outcome WrongLength) (lent b [])
+  unfolding row
+  set-up-length n = refuses (SetUp F) (lent b []) (outcome WrongLength .number) (omega arith) (here (omega arith) (ap not (ne-eqb _ _ n)))
 
   module _ (len : length b ≡ 4096) where
-    pub setUp-size : isPoolSize F ≡ false → SetUp F b WrongPoolSize b
-    unfolding setUpReply
-    setUp-size f =
-        setUp-by WrongPoolSize b
-        (sym (passed (not (eqb (length b) 4096)) WrongLength _ _ (ap not (eq-eqb _ _ len)) ∙ refused (not (isPoolSize F)) WrongPoolSize _ _ (ap not f)))
-        (stays WrongPoolSize _ b (λ z. omega arith))
+    pub set-up-size : isPoolSize F ≡ false → Called (SetUp F) (lent b []) (outcome WrongPoolSize) (lent b [])
+    unfolding row
+    set-up-size f = refuses (SetUp F) (lent b []) (outcome WrongPoolSize .number) (omega arith) (later (ap not (eq-eqb _ _ len)) (here (omega arith) (ap not f)))
 
-    pub setUp-done : (b′ : List ℕ) → isPoolSize F ≡ true → b′ ≡ frameWords F (λ g. 0) → SetUp F b (Done 0) b′
-    unfolding setUpReply
-    setUp-done b′ t w =
-        setUp-by (Done 0) b′
-        (sym (passed (not (eqb (length b) 4096)) WrongLength _ _ (ap not (eq-eqb _ _ len)) ∙ passed (not (isPoolSize F)) WrongPoolSize _ _ (ap not t) ∙ decided (Done 0)))
-        (w ∙ taken (Done 0) (frameWords F (λ g. 0)) b refl)
+    pub set-up-done : (b′ : List ℕ) → isPoolSize F ≡ true → b′ ≡ frameWords F (λ g. 0) → Called (SetUp F) (lent b []) (outcome (Done 0)) (lent b′ [])
+    unfolding row
+    set-up-done b′ t w = accepts (SetUp F) (lent b []) 0 (lent b′ []) (next (ap not (eq-eqb _ _ len)) (next (ap not t) done)) refl refl (ap (λ (x : List ℕ). lent x []) w)
 
 -- the judgement that the other calls begin with
 
-module _ (F : ℕ) (b : List ℕ) (rs : List (Refusal Reply)) (a : Reply) where
-  judged-length : (length b ≡ 4096 → ⊥) → judged F b rs a ≡ WrongLength
-  unfolding judged
-  judged-length n = refused (not (eqb (length b) 4096)) WrongLength _ _ (ap not (ne-eqb _ _ n))
+module _ (F : ℕ) (b : List ℕ) (t : lawful F b ≡ true) where
+  is-size : isPoolSize F ≡ true
+  is-size = let l = lawful-is F b t in at-size F (l .pos) (l .small)
 
-  module _ (len : length b ≡ 4096) where
-    judged-size : isPoolSize F ≡ false → judged F b rs a ≡ WrongPoolSize
-    unfolding judged
-    judged-size f =
-        passed (not (eqb (length b) 4096)) WrongLength _ _ (ap not (eq-eqb _ _ len))
-        ∙ passed (isPoolSize F && not (lawful F b)) Unlawful _ _ (ap (λ (x : Bool). x && not (lawful F b)) f)
-        ∙ refused (not (isPoolSize F)) WrongPoolSize _ _ (ap not f)
+  is-lawful : (isPoolSize F && not (lawful F b)) ≡ false
+  is-lawful = rw (is-size, t)
 
-    judged-unlawful : isPoolSize F ≡ true → lawful F b ≡ false → judged F b rs a ≡ Unlawful
-    unfolding judged
-    judged-unlawful t f =
-        passed (not (eqb (length b) 4096)) WrongLength _ _ (ap not (eq-eqb _ _ len))
-        ∙ refused (isPoolSize F && not (lawful F b)) Unlawful _ _ (true-and _ _ t (ap not f))
+  -- not refused so far
+  on : (n : ℕ) (rs : List (Refusal ℕ)) → Applies n rs → Applies n (judged F b rs)
+  on n rs w = later (ap not (eq-eqb _ _ (lawful-is F b t .len))) (later is-lawful (later (ap not is-size) w))
 
-  judged-lawful : lawful F b ≡ true → judged F b rs a ≡ decide rs a
-  unfolding judged
-  judged-lawful t =
-      let l = lawful-is F b t in
-      let s : isPoolSize F ≡ true = at-size F (l .pos) (l .small) in
-      passed (not (eqb (length b) 4096)) WrongLength _ _ (ap not (eq-eqb _ _ (l .len)))
-      ∙ passed (isPoolSize F && not (lawful F b)) Unlawful _ _ (ap (λ (x : Bool). x && not (lawful F b)) s ∙ ap not t)
-      ∙ passed (not (isPoolSize F)) WrongPoolSize _ _ (ap not s)
+  none-on : (rs : List (Refusal ℕ)) → NoneApplies rs → NoneApplies (judged F b rs)
+  none-on rs w = next (ap not (eq-eqb _ _ (lawful-is F b t .len))) (next is-lawful (next (ap not is-size) w))
 
 module _ (F : ℕ) (b : List ℕ) where
-  pub check-length : (length b ≡ 4096 → ⊥) → WrongLength ≡ checkReply F b
-  unfolding checkReply
-  check-length n = sym (judged-length F b [] (Done 0) n)
+  pub check-length : (length b ≡ 4096 → ⊥) → Called (Check F) (lent b []) (outcome WrongLength) (lent b [])
+  unfolding row
+  check-length n = refuses (Check F) (lent b []) (outcome WrongLength .number) (omega arith) (here (omega arith) (ap not (ne-eqb _ _ n)))
 
-  pub check-size : length b ≡ 4096 → isPoolSize F ≡ false → WrongPoolSize ≡ checkReply F b
-  unfolding checkReply
-  check-size len f = sym (judged-size F b [] (Done 0) len f)
+  unsized : isPoolSize F ≡ false → (isPoolSize F && not (lawful F b)) ≡ false
+  unsized f = rw f
 
-  pub check-unlawful : length b ≡ 4096 → isPoolSize F ≡ true → lawful F b ≡ false → Unlawful ≡ checkReply F b
-  unfolding checkReply
-  check-unlawful len t f = sym (judged-unlawful F b [] (Done 0) len t f)
+  module _ (len : length b ≡ 4096) where
+    pub check-size : isPoolSize F ≡ false → Called (Check F) (lent b []) (outcome WrongPoolSize) (lent b [])
+    unfolding row
+    check-size f = refuses (Check F) (lent b []) (outcome WrongPoolSize .number) (omega arith) (later (ap not (eq-eqb _ _ len)) (later (unsized f) (here (omega arith) (ap not f))))
 
-  pub check-done : lawful F b ≡ true → Done 0 ≡ checkReply F b
-  unfolding checkReply
-  check-done t = sym (judged-lawful F b [] (Done 0) t ∙ decided (Done 0))
+    pub check-unlawful : isPoolSize F ≡ true → lawful F b ≡ false → Called (Check F) (lent b []) (outcome Unlawful) (lent b [])
+    unfolding row
+    check-unlawful t f = refuses (Check F) (lent b []) (outcome Unlawful .number) (omega arith) (later (ap not (eq-eqb _ _ len)) (here (omega arith) (true-and _ _ t (ap not f))))
 
-  -- the four cases of the judgement
-  by-judgement : {P : Type 0} → ((length b ≡ 4096 → ⊥) → P) → (length b ≡ 4096 → isPoolSize F ≡ false → P)
-      → (length b ≡ 4096 → isPoolSize F ≡ true → lawful F b ≡ false → P) → (lawful F b ≡ true → P) → P
-  by-judgement l s u y =
-      by-dec (ℕ-discrete (length b) 4096)
-      (λ e. by-test (isPoolSize F) (λ t. by-test (lawful F b) y (u e t)) (s e))
-      l
+  pub check-done : lawful F b ≡ true → Called (Check F) (lent b []) (outcome (Done 0)) (lent b [])
+  unfolding row
+  check-done t = accepts (Check F) (lent b []) 0 (lent b []) (none-on F b t [] done) refl refl refl
 
-  -- a check that refuses is the answer of every call, and one that does not says that the words are lawful
-  accepted-lawful : outcome (checkReply F b) .number ≡ 0 → lawful F b ≡ true
-  accepted-lawful z =
-      by-judgement
-      (λ n. absurd (clash (check-length n) z (λ y. omega arith)))
-      (λ len f. absurd (clash (check-size len f) z (λ y. omega arith)))
-      (λ len t f. absurd (clash (check-unlawful len t f) z (λ y. omega arith)))
-      (λ t. t)
-    where
-      clash : {r : Reply} → r ≡ checkReply F b → outcome (checkReply F b) .number ≡ 0 → (outcome r .number ≡ 0 → ⊥) → ⊥
-      clash e z n = n (ap (λ (x : Reply). outcome x .number) e ∙ z)
+  pub judged-lawful : not (isPoolSize F) ≡ false → (isPoolSize F && not (lawful F b)) ≡ false → lawful F b ≡ true
+  judged-lawful s u = by-test (lawful F b) (λ t. t) (λ f. true-false _ (true-and (isPoolSize F) (not (lawful F b)) (not-false _ s) (ap not f)) u)
 
-  refused-same : (rs : List (Refusal Reply)) (a : Reply) → (outcome (checkReply F b) .number ≡ 0 → ⊥) → judged F b rs a ≡ checkReply F b
-  refused-same rs a n =
-      by-judgement
-      (λ l. judged-length F b rs a l ∙ check-length l)
-      (λ len f. judged-size F b rs a len f ∙ check-size len f)
-      (λ len t f. judged-unlawful F b rs a len t f ∙ check-unlawful len t f)
-      (λ t. absurd (n (ap (λ (x : Reply). outcome x .number) (sym (check-done t)))))
+  pub none-lawful : NoneApplies (judged F b []) → lawful F b ≡ true
+  none-lawful (next l (next u (next s done))) = judged-lawful s u
 
-  -- as the code has it: r what check answered, x its outcome
-  module _ (r : Reply) (x : Outcome) (re : r ≡ checkReply F b) (xe : x ≡ outcome r) where
-    numbered : x .number ≡ outcome (checkReply F b) .number
-    numbered = ap (λ (y : Outcome). y .number) xe ∙ ap (λ (y : Reply). outcome y .number) re
+  judged-more : (n : ℕ) (rs : List (Refusal ℕ)) → Applies n (judged F b []) → Applies n (judged F b rs)
+  judged-more n rs (here e t) = here e t
+  judged-more n rs (later l (here e t)) = later l (here e t)
+  judged-more n rs (later l (later u (here e t))) = later l (later u (here e t))
 
-    pub accepted : x .number ≡ 0 → lawful F b ≡ true
-    accepted z = accepted-lawful (sym numbered ∙ z)
+  -- as the code has it: o the outcome of what check answered, x the same
+  module _ (o x : Outcome) (w : Called (Check F) (lent b []) o (lent b [])) (xe : x ≡ o) where
+    numbered : x .number ≡ o .number
+    numbered = ap (λ (y : Outcome). y .number) xe
 
-    refusing : (x .number ≡ 0 → ⊥) → outcome (checkReply F b) .number ≡ 0 → ⊥
-    refusing n z = n (numbered ∙ z)
+    judged-exactly : Exactly (judged F b []) (o .number)
+    unfolding LowestFirst row
+    judged-exactly = promised-exactly _ _ _ _ w (lowest-first (Check F) (lent b []))
 
-    pub count-refused : (x .number ≡ 0 → ⊥) → r ≡ countReply F b
-    unfolding countReply
-    count-refused n = re ∙ sym (refused-same [] _ (refusing n))
+    pub passed : x .number ≡ 0 → lawful F b ≡ true
+    passed z = none-lawful (judged-exactly .none (sym numbered ∙ z))
 
-  pub count-done : lawful F b ≡ true → (m : ℕ) → m ≡ count F (freeIn b) → Done m ≡ countReply F b
-  unfolding countReply
-  count-done t m e = ap Done e ∙ sym (judged-lawful F b [] (Done (count F (freeIn b))) t ∙ decided _)
+    -- a check that refuses gives the answer of every call that begins with it
+    stopped : (c : PoolCall) (out : List ℕ) (rs : List (Refusal ℕ)) → row (lent b out) c .refusals ≡ judged F b rs → (x .number ≡ 0 → ⊥) → Called c (lent b out) o (lent b out)
+    stopped c out rs e n =
+        let nz : o .number ≡ 0 → ⊥ = λ z. n (numbered ∙ z) in
+        refuses-with c (lent b out) o (refused-zeros _ _ _ _ w (ne-eqb _ _ nz)) nz (rw e (judged-more _ rs (judged-exactly .only _ nz refl)))
+
+    pub count-stopped : (x .number ≡ 0 → ⊥) → Called (Count F) (lent b []) o (lent b [])
+    unfolding row
+    count-stopped = stopped (Count F) [] _ refl
+
+    pub allocate-stopped : (first : ℕ) (out : List ℕ) → (x .number ≡ 0 → ⊥) → Called (Allocate F first) (lent b out) o (lent b out)
+    unfolding row
+    allocate-stopped first out = stopped (Allocate F first) out _ refl
+
+    pub free-stopped : (first n : ℕ) → (x .number ≡ 0 → ⊥) → Called (Free F first n) (lent b []) o (lent b [])
+    unfolding row
+    free-stopped first n = stopped (Free F first n) [] _ refl
+
+  pub count-done : lawful F b ≡ true → (m : ℕ) → m ≡ count F (freeIn b) → Called (Count F) (lent b []) (outcome (Done m)) (lent b [])
+  unfolding row
+  count-done t m e = accepts (Count F) (lent b []) m (lent b []) (none-on F b t [] done) e refl refl
 
 -- allocate
 
-module _ (F : ℕ) (b : List ℕ) (o : ℕ) (out : List ℕ) where
-  allocated-by : (r : Reply) (b′ out′ : List ℕ) → r ≡ allocateReply F b o (length out) → b′ ≡ leaves r (frameWords F (give (ownersOf b) o (framesFor F (freeIn b) (length out)))) b
-      → out′ ≡ leaves r (framesFor F (freeIn b) (length out)) out → Allocated F b o out r b′ out′
-  allocated-by r b′ out′ e w f =
-      record {
-        answers = e;
-        words = w ∙ ap (λ (x : Reply). leaves x (frameWords F (give (ownersOf b) o (framesFor F (freeIn b) (length out)))) b) e;
-        frames = f ∙ ap (λ (x : Reply). leaves x (framesFor F (freeIn b) (length out)) out) e;
-      }
+module _ (F : ℕ) (b : List ℕ) (o : ℕ) (out : List ℕ) (t : lawful F b ≡ true) where
+  pub allocate-span : inOwners o (length out) ≡ false → Called (Allocate F o) (lent b out) (outcome WrongSpan) (lent b out)
+  unfolding row
+  allocate-span f = refuses (Allocate F o) (lent b out) (outcome WrongSpan .number) (omega arith) (on F b t _ _ (here (omega arith) (ap not f)))
 
-  allocated-not : (r : Reply) → r ≡ allocateReply F b o (length out) → (outcome r .number ≡ 0 → ⊥) → Allocated F b o out r b out
-  allocated-not r e n = allocated-by r b out e (stays r _ b n) (stays r _ out n)
+  module _ (i : inOwners o (length out) ≡ true) where
+    pub allocate-held : anyFrom (length out) o (holds F (ownersOf b)) ≡ true → Called (Allocate F o) (lent b out) (outcome AlreadyHeld) (lent b out)
+    unfolding row
+    allocate-held h = refuses (Allocate F o) (lent b out) (outcome AlreadyHeld .number) (omega arith) (on F b t _ _ (later (ap not i) (here (omega arith) h)))
 
-  pub allocate-refused : (r : Reply) (x : Outcome) → r ≡ checkReply F b → x ≡ outcome r → (x .number ≡ 0 → ⊥) → Allocated F b o out r b out
-  unfolding allocateReply
-  allocate-refused r x re xe n =
-      allocated-not r (re ∙ sym (refused-same F b _ _ (refusing F b r x re xe n))) (λ z. n (ap (λ (y : Outcome). y .number) xe ∙ z))
+    module _ (nobody : anyFrom (length out) o (holds F (ownersOf b)) ≡ false) where
+      pub allocate-few : count F (freeIn b) < length out → Called (Allocate F o) (lent b out) (outcome TooFewFrames) (lent b out)
+      unfolding row
+      allocate-few h = refuses (Allocate F o) (lent b out) (outcome TooFewFrames .number) (omega arith) (on F b t _ _ (later (ap not i) (later nobody (here (omega arith) (lt-ltb _ _ h)))))
 
-  module _ (t : lawful F b ≡ true) where
-    pub allocate-span : inOwners o (length out) ≡ false → Allocated F b o out WrongSpan b out
-    unfolding allocateReply
-    allocate-span f = allocated-not WrongSpan (sym (judged-lawful F b _ _ t ∙ refused (not (inOwners o (length out))) WrongSpan _ _ (ap not f))) (λ z. omega arith)
-
-    module _ (i : inOwners o (length out) ≡ true) where
-      spanned : (rs : List (Refusal Reply)) (a : Reply) → judged F b (wrongSpan o (length out) ∷ rs) a ≡ decide rs a
-      spanned rs a = judged-lawful F b _ _ t ∙ passed (not (inOwners o (length out))) WrongSpan _ _ (ap not i)
-
-      pub allocate-held : anyFrom (length out) o (holds F (ownersOf b)) ≡ true → Allocated F b o out AlreadyHeld b out
-      unfolding allocateReply
-      allocate-held h = allocated-not AlreadyHeld (sym (spanned _ _ ∙ refused (anyFrom (length out) o (holds F (ownersOf b))) AlreadyHeld _ _ h)) (λ z. omega arith)
-
-      module _ (nobody : anyFrom (length out) o (holds F (ownersOf b)) ≡ false) where
-        pub allocate-few : count F (freeIn b) < length out → Allocated F b o out TooFewFrames b out
-        unfolding allocateReply
-        allocate-few h =
-            allocated-not TooFewFrames
-            (sym (spanned _ _ ∙ passed (anyFrom (length out) o (holds F (ownersOf b))) AlreadyHeld _ _ nobody
-            ∙ refused (ltb (count F (freeIn b)) (length out)) TooFewFrames _ _ (lt-ltb _ _ h)))
-            (λ z. omega arith)
-
-        pub allocate-done : (r : ℕ) (b′ out′ : List ℕ) → length out ≤ count F (freeIn b) → Taken F b o (length out) r b′ out′ → Allocated F b o out (Done r) b′ out′
-        unfolding allocateReply
-        allocate-done r b′ out′ h w =
-            allocated-by (Done r) b′ out′
-            (ap Done (w .blocks) ∙ sym (spanned _ _ ∙ passed (anyFrom (length out) o (holds F (ownersOf b))) AlreadyHeld _ _ nobody
-            ∙ passed (ltb (count F (freeIn b)) (length out)) TooFewFrames _ _ (le-ltb _ _ h) ∙ decided _))
-            (w .words ∙ taken (Done r) _ b refl)
-            (w .frames ∙ taken (Done r) _ out refl)
+      pub allocate-done : (r : ℕ) (b′ out′ : List ℕ) → length out ≤ count F (freeIn b) → Taken F b o (length out) r b′ out′ → Called (Allocate F o) (lent b out) (outcome (Done r)) (lent b′ out′)
+      unfolding row
+      allocate-done r b′ out′ h w =
+          accepts (Allocate F o) (lent b out) r (lent b′ out′) (none-on F b t _ (next (ap not i) (next nobody (next (le-ltb _ _ h) done)))) (w .blocks) refl (rw (w .words, w .frames))
 
 -- free
 
-module _ (F : ℕ) (b : List ℕ) (o n : ℕ) where
-  freed-by : (r : Reply) (b′ : List ℕ) → r ≡ freeReply F b o n → b′ ≡ leaves r (freedWords F b o n) b → Freed F b o n r b′
-  freed-by r b′ e w = record { answers = e; words = w ∙ ap (λ (x : Reply). leaves x (freedWords F b o n) b) e }
+module _ (F : ℕ) (b : List ℕ) (o n : ℕ) (t : lawful F b ≡ true) where
+  pub free-span : inOwners o n ≡ false → Called (Free F o n) (lent b []) (outcome WrongSpan) (lent b [])
+  unfolding row
+  free-span f = refuses (Free F o n) (lent b []) (outcome WrongSpan .number) (omega arith) (on F b t _ _ (here (omega arith) (ap not f)))
 
-  pub free-refused : (r : Reply) (x : Outcome) → r ≡ checkReply F b → x ≡ outcome r → (x .number ≡ 0 → ⊥) → Freed F b o n r b
-  unfolding freeReply
-  free-refused r x re xe k =
-      freed-by r b (re ∙ sym (refused-same F b _ _ (refusing F b r x re xe k))) (stays r _ b (λ z. k (ap (λ (y : Outcome). y .number) xe ∙ z)))
+  module _ (i : inOwners o n ≡ true) where
+    pub free-missing : allFrom n o (holds F (ownersOf b)) ≡ false → Called (Free F o n) (lent b []) (outcome NotHeld) (lent b [])
+    unfolding row
+    free-missing f = refuses (Free F o n) (lent b []) (outcome NotHeld .number) (omega arith) (on F b t _ _ (later (ap not i) (here (omega arith) (ap not f))))
 
-  module _ (t : lawful F b ≡ true) where
-    pub free-span : inOwners o n ≡ false → Freed F b o n WrongSpan b
-    unfolding freeReply
-    free-span f = freed-by WrongSpan b (sym (judged-lawful F b _ _ t ∙ refused (not (inOwners o n)) WrongSpan _ _ (ap not f))) (stays WrongSpan _ b (λ z. omega arith))
+    pub free-done : (b′ : List ℕ) (x y : ℕ) → allFrom n o (holds F (ownersOf b)) ≡ true → b′ ≡ frameWords F (freed (ownersOf b) o n)
+        → x ≡ count F (freeIn b) → y ≡ count F (freeIn b′) → Called (Free F o n) (lent b []) (outcome (Done (y - x))) (lent b′ [])
+    unfolding row freedWords
+    free-done b′ x y all w xe ye =
+        accepts (Free F o n) (lent b []) (y - x) (lent b′ []) (none-on F b t _ (next (ap not i) (next (ap not all) done))) (rw (ye, xe, w)) refl (ap (λ (v : List ℕ). lent v []) w)
 
-    module _ (i : inOwners o n ≡ true) where
-      pub free-missing : allFrom n o (holds F (ownersOf b)) ≡ false → Freed F b o n NotHeld b
-      unfolding freeReply
-      free-missing f =
-          freed-by NotHeld b
-          (sym (judged-lawful F b _ _ t ∙ passed (not (inOwners o n)) WrongSpan _ _ (ap not i) ∙ refused (not (allFrom n o (holds F (ownersOf b)))) NotHeld _ _ (ap not f)))
-          (stays NotHeld _ b (λ z. omega arith))
-
-      pub free-done : (b′ : List ℕ) (x y : ℕ) → allFrom n o (holds F (ownersOf b)) ≡ true → b′ ≡ frameWords F (freed (ownersOf b) o n)
-          → x ≡ count F (freeIn b) → y ≡ count F (freeIn b′) → Freed F b o n (Done (y - x)) b′
-      unfolding freeReply freedWords
-      free-done b′ x y all w xe ye =
-          let v : y - x ≡ count F (freeIn (frameWords F (freed (ownersOf b) o n))) - count F (freeIn b) = rw (ye, xe, w) in
-          freed-by (Done (y - x)) b′
-          (ap Done v ∙ sym (judged-lawful F b _ _ t ∙ passed (not (inOwners o n)) WrongSpan _ _ (ap not i) ∙ passed (not (allFrom n o (holds F (ownersOf b)))) NotHeld _ _ (ap not all) ∙ decided _))
-          (w ∙ taken (Done (y - x)) _ b refl)
-
-      -- no frame is held that was free
-      pub free-more : (b′ : List ℕ) → b′ ≡ frameWords F (freed (ownersOf b) o n) → count F (freeIn b) ≤ count F (freeIn b′)
-      unfolding freeIn freed
-      free-more b′ w =
-          let l = lawful-is F b t in
-          let q = owners-in o n i in
-          let pos = q .1 in
-          let same : ownersOf b′ ≡ freed (ownersOf b) o n = ap ownersOf w
-          ∙ owners-again F (freed (ownersOf b) o n) (λ g. freed-small (ownersOf b) o n g (owners-small b g)) (λ g h. freed-zero (ownersOf b) o n g pos (owners-high F b l g h)) (l .small) in
-          count-mono F (freeIn b) (freeIn b′) (λ g h z. at-free (ownersOf b′) g (ap (λ (p : ℕ → ℕ). p g) same ∙ freed-zero (ownersOf b) o n g pos (free-zero b g z)))
+    -- no frame is held that was free
+    pub free-more : (b′ : List ℕ) → b′ ≡ frameWords F (freed (ownersOf b) o n) → count F (freeIn b) ≤ count F (freeIn b′)
+    unfolding freeIn freed
+    free-more b′ w =
+        let l = lawful-is F b t in
+        let q = owners-in o n i in
+        let pos = q .1 in
+        let same : ownersOf b′ ≡ freed (ownersOf b) o n = ap ownersOf w
+        ∙ owners-again F (freed (ownersOf b) o n) (λ g. freed-small (ownersOf b) o n g (owners-small b g)) (λ g h. freed-zero (ownersOf b) o n g pos (owners-high F b l g h)) (l .small) in
+        count-mono F (freeIn b) (freeIn b′) (λ g h z. at-free (ownersOf b′) g (ap (λ (p : ℕ → ℕ). p g) same ∙ freed-zero (ownersOf b) o n g pos (free-zero b g z)))

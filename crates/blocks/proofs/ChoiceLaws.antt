@@ -21,8 +21,8 @@ use Rattle.words.proofs.CountLaws.{count-or, count-range, count-some}
 use Rattle.words.proofs.SearchLaws.{First, found, missing, firstFrom-is, first-ext, Largest, greatest, nothing, largest-is, largest-ext, is-some-at, some-is}
 use Rattle.blocks.specs.declared.Block.{Block}
 use Rattle.blocks.specs.Blocks.{block, inBlock, freeBlock}
-use Rattle.blocks.specs.Choice.{lowest, serving, isServed, orderFor, cutAt, takeFrom, takeOrder, takeBlock, without, takeBlocks, framesOf}
-use Rattle.blocks.specs.Around.{startOf}
+use Rattle.blocks.specs.Choice.{lowest, serving, isServed, orderFor, cutAt, takeFrom, takeOrder, takeBlock, without, leftAfter, takeBlocks, framesOf}
+use Rattle.blocks.specs.Inner.Around.{startOf}
 use Rattle.blocks.proofs.AroundLaws.{finer, coarser, in-block, block-in, inBlock-is, is-inBlock, not-inBlock, around-at, free-around, without-free, without-out}
 use Rattle.blocks.proofs.FreeBlockLaws.{BlockAt, free-block-at, at-free-block, in-block-at, free-block-ext}
 
@@ -232,7 +232,7 @@ takes-good zero F free left = good-nil F free
 takes-good (suc n) F free left = go (takeBlock F free left) (taking F free left) (λ free' left'. takes-good n F free' left')
   where
     go : (o : Option Block) → Taking F free left o → ((free' : ℕ → Bool) (left' : ℕ) → Good F free' (framesOf (takeBlocks n F free' left')))
-        → Good F free (framesOf (elim o [ none ↦ [] | some b ↦ b ∷ takeBlocks n F (without free (b .order) (b .start .0)) (left - 2 ^ (b .order)) ]))
+        → Good F free (framesOf (elim o [ none ↦ [] | some b ↦ b ∷ takeBlocks n F (without free (b .order) (b .start .0)) (leftAfter left b) ]))
     go o (one b w) ih = good-cons F free left b _ w (ih _ _)
     go o (end x) ih = good-nil F free
 
@@ -243,10 +243,10 @@ takes-all zero F free left h c = omega arith
 takes-all (suc n) F free left h c = go (takeBlock F free left) (taking F free left) (λ free' left'. takes-all n F free' left')
   where
     go : (o : Option Block) → Taking F free left o → ((free' : ℕ → Bool) (left' : ℕ) → left' ≤ n → left' ≤ count F free' → length (framesOf (takeBlocks n F free' left')) ≡ left')
-        → length (framesOf (elim o [ none ↦ [] | some b ↦ b ∷ takeBlocks n F (without free (b .order) (b .start .0)) (left - 2 ^ (b .order)) ])) ≡ left
+        → length (framesOf (elim o [ none ↦ [] | some b ↦ b ∷ takeBlocks n F (without free (b .order) (b .start .0)) (leftAfter left b) ])) ≡ left
     go o (one b w) ih =
-        let r = ih (without free (b .order) (b .start .0)) (left - 2 ^ (b .order)) (omega (arith, pow-pos (b .order), w .fits)) (omega (arith, took-count F free left b w, w .fits)) in
-        omega (arith, r, w .fits, length-frames b (takeBlocks n F (without free (b .order) (b .start .0)) (left - 2 ^ (b .order))))
+        let r = ih (without free (b .order) (b .start .0)) (leftAfter left b) (omega (arith, pow-pos (b .order), w .fits)) (omega (arith, took-count F free left b w, w .fits)) in
+        omega (arith, r, w .fits, length-frames b (takeBlocks n F (without free (b .order) (b .start .0)) (leftAfter left b)))
     go o (end x) ih = by-dec (ℕ-discrete left 0) (λ z. sym z) (λ nz. let f = count-some F free (omega arith) in absurd (x (f .0) (f .1) (f .2) (omega arith)))
 
 -- enough fuel is as good as more
@@ -256,20 +256,20 @@ fuel zero zero F free left hn hm = refl
 fuel zero (suc m) F free left hn hm = at (takeBlock F free left) (taking F free left)
   where
     at : (o : Option Block) → Taking F free left o
-        → _≡_ {A = List Block} [] (elim o [ none ↦ [] | some b ↦ b ∷ takeBlocks m F (without free (b .order) (b .start .0)) (left - 2 ^ (b .order)) ])
+        → _≡_ {A = List Block} [] (elim o [ none ↦ [] | some b ↦ b ∷ takeBlocks m F (without free (b .order) (b .start .0)) (leftAfter left b) ])
     at o (one b w) = absurd (omega (arith, w .fits, pow-pos (b .order)))
     at o (end x) = refl
 fuel (suc n) zero F free left hn hm = at (takeBlock F free left) (taking F free left)
   where
     at : (o : Option Block) → Taking F free left o
-        → _≡_ {A = List Block} (elim o [ none ↦ [] | some b ↦ b ∷ takeBlocks n F (without free (b .order) (b .start .0)) (left - 2 ^ (b .order)) ]) []
+        → _≡_ {A = List Block} (elim o [ none ↦ [] | some b ↦ b ∷ takeBlocks n F (without free (b .order) (b .start .0)) (leftAfter left b) ]) []
     at o (one b w) = absurd (omega (arith, w .fits, pow-pos (b .order)))
     at o (end x) = refl
 fuel (suc n) (suc m) F free left hn hm = at (takeBlock F free left) (taking F free left) (λ free' left'. fuel n m F free' left')
   where
     at : (o : Option Block) → Taking F free left o → ((free' : ℕ → Bool) (left' : ℕ) → left' ≤ n → left' ≤ m → takeBlocks n F free' left' ≡ takeBlocks m F free' left')
-        → _≡_ {A = List Block} (elim o [ none ↦ [] | some b ↦ b ∷ takeBlocks n F (without free (b .order) (b .start .0)) (left - 2 ^ (b .order)) ])
-        (elim o [ none ↦ [] | some b ↦ b ∷ takeBlocks m F (without free (b .order) (b .start .0)) (left - 2 ^ (b .order)) ])
+        → _≡_ {A = List Block} (elim o [ none ↦ [] | some b ↦ b ∷ takeBlocks n F (without free (b .order) (b .start .0)) (leftAfter left b) ])
+        (elim o [ none ↦ [] | some b ↦ b ∷ takeBlocks m F (without free (b .order) (b .start .0)) (leftAfter left b) ])
     at o (one b w) ih = ap {B = List Block} (λ r. b ∷ r) (ih _ _ (omega (arith, w .fits, pow-pos (b .order))) (omega (arith, w .fits, pow-pos (b .order))))
     at o (end x) ih = refl
 
@@ -312,7 +312,7 @@ takeBlocks-same zero F p q left same = refl
 takeBlocks-same (suc n) F p q left same = rw (takeBlock-same F p q same left, takeBlocks) (go (takeBlock F q left) (λ p' q' left' s. takeBlocks-same n F p' q' left' s))
   where
     go : (o : Option Block) → ((p' q' : ℕ → Bool) (left' : ℕ) → ((g : ℕ) → g < F → p' g ≡ q' g) → takeBlocks n F p' left' ≡ takeBlocks n F q' left')
-        → _≡_ {A = List Block} (elim o [ none ↦ [] | some b ↦ b ∷ takeBlocks n F (without p (b .order) (b .start .0)) (left - 2 ^ (b .order)) ])
-        (elim o [ none ↦ [] | some b ↦ b ∷ takeBlocks n F (without q (b .order) (b .start .0)) (left - 2 ^ (b .order)) ])
+        → _≡_ {A = List Block} (elim o [ none ↦ [] | some b ↦ b ∷ takeBlocks n F (without p (b .order) (b .start .0)) (leftAfter left b) ])
+        (elim o [ none ↦ [] | some b ↦ b ∷ takeBlocks n F (without q (b .order) (b .start .0)) (leftAfter left b) ])
     go none ih = refl
     go (some b) ih = ap {B = List Block} (λ r. b ∷ r) (ih _ _ _ (λ g h. without-same F p q same (b .order) (b .start .0) g h))

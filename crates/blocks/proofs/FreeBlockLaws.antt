@@ -1,16 +1,19 @@
 -- The free blocks of Blocks are the maximal wholly free blocks around their frames.
 use mathlib.Core.Path.{_≡_, refl, ap, _∙_, sym}
 use mathlib.Core.Bool.{Bool, true, not}
-use Prim.Native.Nat.{ℕ, suc, _+_, _/_, _^_, _-_, _<_, _≤_, zero-le}
+use Prim.Native.Nat.{ℕ, suc, _+_, _/_, _%_, _^_, _-_, _<_, _≤_, zero-le}
 use native.Mathlib.Decide.{decLe}
 use native.Mathlib.Omega.{arith}
 use lib.Pow.{pow-pos}
 use borrow.Author.Tests.{leb-true, le-leb, eqb-true, eq-eqb, not-true}
 use Rattle.words.proofs.Cases.{by-test, by-dec, true-false, and-true, true-and}
 use Rattle.words.proofs.SearchLaws.{allFrom-at, at-allFrom, any-at, at-any}
-use Rattle.blocks.specs.Blocks.{isBlock, liesIn, whollyFree, inLarger, freeBlock}
-use Rattle.blocks.specs.Around.{startOf, around}
+use Rattle.blocks.specs.Blocks.{pastMultiple, isBlock, liesIn, sizeFor, whollyFree, inLarger, freeBlock}
+use Rattle.blocks.specs.Inner.Around.{startOf, around}
 use Rattle.blocks.proofs.AroundLaws.{mod-start, start-mod, start-start, start-in, coarser, in-block, block-in, around-at, at-around, around-same, around-ext, Maximal, order-here, maximal-same}
+
+multiple : (k s : ℕ) → pastMultiple k s ≡ 0 → s % 2 ^ k ≡ 0
+multiple k s e = omega arith
 
 module _ (F : ℕ) (free : ℕ → Bool) where
   -- s is the first frame of a free block of order k
@@ -25,8 +28,8 @@ module _ (F : ℕ) (free : ℕ → Bool) where
       let p = and-true _ _ t in
       let b = and-true _ _ (p .0) in
       let q = and-true _ _ (p .1) in
-      let st : startOf k s ≡ s = mod-start k s (eqb-true _ _ (b .1)) in
-      let room : s + 2 ^ k ≤ F = leb-true _ _ (q .0) in (
+      let st : startOf k s ≡ s = mod-start k s (multiple k s (eqb-true _ _ (b .1))) in
+      let room : sizeFor k s ≤ F = leb-true _ _ (q .0) in (
         leb-true _ _ (b .0),
         st,
         at-around F free k s (λ g e.

@@ -18,7 +18,7 @@ use Rattle.words.specs.Writes.{sameIn}
 use Rattle.blocks.specs.FrameWords.{ownerOf, ownersOf, freeIn, frameWords}
 use Rattle.blocks.specs.Choice.{framesFor, blocksFor}
 use Rattle.blocks.specs.Owners.{put, give, inSpan, cleared, freed, holds}
-use Rattle.blocks.specs.Passes.{ClearedTo, MarkedOne, MarkedTo}
+use Rattle.blocks.specs.Inner.Passes.{ClearedTo, MarkedOne, MarkedTo}
 use Rattle.blocks.proofs.WordLaws.{owner-low, owner-high, owners-small, free-zero, Lawful, lawful-table, owners-high, owners-again, words-ext}
 use Rattle.blocks.proofs.ChoiceLaws.{Good, takes-good, takes-all}
 use Rattle.blocks.proofs.AllocateLaws.{put-same, put-other}

@@ -12,8 +12,8 @@ use Rattle.words.proofs.SearchLaws.{allFrom-at}
 use Rattle.words.specs.Counts.{count}
 use Rattle.words.proofs.Cases.{by-test, by-dec, true-false}
 use Rattle.words.proofs.CountLaws.{count-split, none-pass, all-pass}
-use Rattle.blocks.specs.FrameWords.{isOwner, freeIn, heldIn}
-use Rattle.blocks.specs.Passes.{Checked, HeldTo}
+use Rattle.blocks.specs.FrameWords.{isOwner, freeIn, ownedIn}
+use Rattle.blocks.specs.Inner.Passes.{Checked, HeldTo}
 use Rattle.blocks.proofs.WordLaws.{owner-false, is-free}
 
 -- a stretch
@@ -41,23 +41,23 @@ module _ (b : List ℕ) (s e : ℕ) where
 
 -- the count
 
-pub held-start : (b : List ℕ) → 0 ≡ count 0 (heldIn b)
+pub held-start : (b : List ℕ) → 0 ≡ count 0 (ownedIn b)
 unfolding count
 held-start b = refl
 
-count-on : (b : List ℕ) (f r : ℕ) → f ≤ r → count r (heldIn b) ≡ count f (heldIn b) + count (r - f) (λ i. heldIn b (f + i))
-count-on b f r h = let sum : f + (r - f) ≡ r = omega arith in rw sum at (count-split f (r - f) (heldIn b))
+count-on : (b : List ℕ) (f r : ℕ) → f ≤ r → count r (ownedIn b) ≡ count f (ownedIn b) + count (r - f) (λ i. ownedIn b (f + i))
+count-on b f r h = let sum : f + (r - f) ≡ r = omega arith in rw sum at (count-split f (r - f) (ownedIn b))
 
-held-word : (b : List ℕ) (g : ℕ) → freeIn b g ≡ false → heldIn b g ≡ true
-unfolding heldIn
+held-word : (b : List ℕ) (g : ℕ) → freeIn b g ≡ false → ownedIn b g ≡ true
+unfolding ownedIn
 held-word b g f = by-test (isOwner (getD b g 0)) (λ t. t) (λ n. true-false (freeIn b g) (is-free b g (owner-false _ n)) f)
 
-pub count-held : (b : List ℕ) (s e r n : ℕ) → n ≡ count s (heldIn b) → HeldTo b s e r → n + (r - s) ≡ count r (heldIn b)
+pub count-held : (b : List ℕ) (s e r n : ℕ) → n ≡ count s (ownedIn b) → HeldTo b s e r → n + (r - s) ≡ count r (ownedIn b)
 count-held b s e r n q w =
-    let all : count (r - s) (λ i. heldIn b (s + i)) ≡ r - s = all-pass (r - s) _ (λ i h. held-word b (s + i) (w .held (s + i) (omega arith) (omega arith))) in
+    let all : count (r - s) (λ i. ownedIn b (s + i)) ≡ r - s = all-pass (r - s) _ (λ i h. held-word b (s + i) (w .held (s + i) (omega arith) (omega arith))) in
     omega (arith, count-on b s r (w .from), all, q)
 
-pub count-block : (F : ℕ) (b : List ℕ) (f r n : ℕ) → f < r → Checked F b f r → n ≡ count f (heldIn b) → n ≡ count r (heldIn b)
+pub count-block : (F : ℕ) (b : List ℕ) (f r n : ℕ) → f < r → Checked F b f r → n ≡ count f (ownedIn b) → n ≡ count r (ownedIn b)
 count-block F b f r n on x q =
-    let none : count (r - f) (λ i. heldIn b (f + i)) ≡ 0 = none-pass (r - f) _ (λ i h. x .free (f + i) (omega arith) (omega arith)) in
+    let none : count (r - f) (λ i. ownedIn b (f + i)) ≡ 0 = none-pass (r - f) _ (λ i h. x .free (f + i) (omega arith) (omega arith)) in
     omega (arith, count-on b f r (omega arith), none, q)

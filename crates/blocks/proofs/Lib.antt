@@ -9,5 +9,5 @@ pub mod TakeLaws
 pub mod AllocateLaws
 pub mod FreeLaws
 pub mod CallLaws
-pub mod EdgeCases
 pub mod Published
+pub mod StatementLaws

@@ -19,8 +19,8 @@ use Rattle.blocks.specs.declared.Bound.{Bound}
 use Rattle.blocks.specs.Blocks.{block, freeBlock}
 use Rattle.blocks.specs.FrameWords.{freeIn, lawful}
 use Rattle.blocks.specs.Choice.{lowest, serving, isServed, orderFor, cutAt, takeFrom, takeOrder, takeBlock, without}
-use Rattle.blocks.specs.Around.{startOf, around}
-use Rattle.blocks.specs.Passes.{orderWithin, orderAt, least, asBlock, Clear, Searched, scanFrom, boundAfter}
+use Rattle.blocks.specs.Inner.Around.{startOf, around}
+use Rattle.blocks.specs.Inner.Passes.{orderWithin, orderAt, least, asBlock, Clear, Searched, scanFrom, boundAfter}
 use Rattle.blocks.proofs.AroundLaws.{start-next, in-block, block-in, start-same, start-start, around-at, at-around, without-free}
 use Rattle.blocks.proofs.FreeBlockLaws.{BlockAt, free-block-at, at-free-block, in-block-at}
 use Rattle.blocks.proofs.WordLaws.{lawful-is, word-block, no-block}

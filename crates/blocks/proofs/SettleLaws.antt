@@ -16,9 +16,9 @@ use Rattle.words.proofs.TableLaws.{is-tabulate}
 use Rattle.words.proofs.SearchLaws.{allFrom-at, at-allFrom, some-fails}
 use Rattle.words.specs.Writes.{Filled, sameIn}
 use Rattle.words.proofs.PowerLaws.{double}
-use Rattle.blocks.specs.FrameWords.{ownerOf, ownersOf, freeIn, heldIn, lawful, frameWord, frameWords}
-use Rattle.blocks.specs.Around.{startOf, around, freeOrder, orderWord}
-use Rattle.blocks.specs.Passes.{Edge, SettledTo, Checked, HeldTo}
+use Rattle.blocks.specs.FrameWords.{ownerOf, ownersOf, freeIn, ownedIn, lawful, frameWord, frameWords}
+use Rattle.blocks.specs.Inner.Around.{startOf, around, freeOrder, orderWord}
+use Rattle.blocks.specs.Inner.Passes.{Edge, SettledTo, Checked, HeldTo}
 use Rattle.blocks.proofs.AroundLaws.{finer, coarser, in-block, block-in, start-same, around-at, at-around, around-same, smaller, around-ext, free-around, Maximal, order-here, maximal-order, maximal-same}
 use Rattle.blocks.proofs.WordLaws.{not-owner, owner-low, owner-high, owners-small, free-same, free-zero, is-free, is-held, start-word, other-word, free-frame, held-word, high-word, word-ext, words-ext, owner-back, lawful-yes, lawful-no}
 
@@ -274,7 +274,7 @@ module _ (F : ℕ) (b : List ℕ) (f : ℕ) (h : f < F) (edge : Edge F (freeIn b
               (r .0, omega arith, λ q. true-false (sameIn b 8192 (r .0)) (eq-eqb _ _ (q ∙ x .others (r .0) (omega arith) (omega arith))) (r .3))
 
       check-block : getD b f 0 ≡ 16384 + k → allFrom (f + z - (f + 1)) (f + 1) (sameIn b 8192) ≡ true → Checked F b f (f + z)
-      unfolding sameIn heldIn
+      unfolding sameIn ownedIn
       check-block first others =
           let x = block-here F b f h edge k t e in
           let w = level-fits F b f h edge k t e in
@@ -297,7 +297,7 @@ module _ (F : ℕ) (b : List ℕ) (f : ℕ) (h : f < F) (edge : Edge F (freeIn b
             bad = λ q. absurd (omega arith);
           }
         where
-          other-frame : (g : ℕ) → getD b g 0 ≡ 8192 → heldIn b g ≡ false
+          other-frame : (g : ℕ) → getD b g 0 ≡ 8192 → ownedIn b g ≡ false
           other-frame g w = not-owner (getD b g 0) (omega arith)
 
   -- the head word names an order

@@ -19,8 +19,8 @@ use Rattle.words.proofs.PowerLaws.{pow-less}
 use Rattle.blocks.specs.Blocks.{inBlock}
 use Rattle.blocks.specs.FrameWords.{ownersOf, freeOf, freeIn, lawful, frameWord, frameWords}
 use Rattle.blocks.specs.Choice.{without}
-use Rattle.blocks.specs.Around.{startOf, around, freeOrder, orderWord}
-use Rattle.blocks.specs.Passes.{Halved, Begins, handed}
+use Rattle.blocks.specs.Inner.Around.{startOf, around, freeOrder, orderWord}
+use Rattle.blocks.specs.Inner.Passes.{Halved, Begins, handed}
 use Rattle.blocks.proofs.AroundLaws.{order-size, finer, start-next, coarser, in-block, block-in, start-same, is-inBlock, not-inBlock, around-at, Maximal, maximal-order, maximal-same, outside, upper-half}
 use Rattle.blocks.proofs.FreeBlockLaws.{BlockAt}
 use Rattle.blocks.proofs.WordLaws.{free-at, free-zero, start-word, other-word, free-frame, held-word, high-word, Lawful, lawful-is, word-block}

@@ -16,7 +16,7 @@ use Rattle.words.proofs.TableLaws.{is-tabulate, tabulate-ext, length-tabulate, 
 use Rattle.words.proofs.SearchLaws.{every-at, at-every, First, found, missing, firstFrom-is}
 use Rattle.blocks.specs.Blocks.{freeBlock}
 use Rattle.blocks.specs.FrameWords.{isPoolSize, isOwner, ownerOf, ownersOf, freeOf, freeIn, firstOrOther, freeWord, lawfulAt, lawful, frameWord, frameWords}
-use Rattle.blocks.specs.Around.{startOf, freeOrder, orderWord}
+use Rattle.blocks.specs.Inner.Around.{startOf, freeOrder, orderWord}
 use Rattle.blocks.proofs.AroundLaws.{around-at, order-here, maximal-order, order-ext}
 use Rattle.blocks.proofs.FreeBlockLaws.{BlockAt, free-block-at, at-free-block}
 

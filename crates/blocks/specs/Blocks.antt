@@ -9,9 +9,13 @@ use Rattle.blocks.specs.declared.Block.{Block}
 abbrev pub block : ℕ → ℕ → Block
 block k s = record { start = record { 0 = s }; order = k }
 
+-- how far s lies past a multiple of 2 to the power k
+abbrev pub pastMultiple : ℕ → ℕ → ℕ
+pastMultiple k s = s % 2 ^ k
+
 -- "A block of order k, 0 to 10, is 2 to the power k frames starting at a multiple of that."
 unfoldable pub isBlock : ℕ → ℕ → Bool
-isBlock k s = leb k 10 && eqb (s % 2 ^ k) 0
+isBlock k s = leb k 10 && eqb (pastMultiple k s) 0
 
 -- frame g is one of the block of order k at s
 unfoldable pub inBlock : ℕ → ℕ → ℕ → Bool
@@ -21,9 +25,13 @@ inBlock k s g = leb s g && ltb g (s + 2 ^ k)
 unfoldable pub liesIn : ℕ → ℕ → ℕ → ℕ → Bool
 liesIn k s m t = leb t s && leb (s + 2 ^ k) (t + 2 ^ m)
 
--- a wholly free block inside the pool of F frames
+-- the size from which on a pool has the block of order k at s inside
+abbrev pub sizeFor : ℕ → ℕ → ℕ
+sizeFor k s = s + 2 ^ k
+
+-- "the wholly free blocks inside the pool"
 unfoldable pub whollyFree : ℕ → (ℕ → Bool) → ℕ → ℕ → Bool
-whollyFree F free k s = isBlock k s && (leb (s + 2 ^ k) F && allFrom (2 ^ k) s free)
+whollyFree F free k s = isBlock k s && (leb (sizeFor k s) F && allFrom (2 ^ k) s free)
 
 -- the block of order k at s lies in a larger such block
 unfoldable pub inLarger : ℕ → (ℕ → Bool) → ℕ → ℕ → Bool

@@ -49,13 +49,17 @@ takeBlock F free left = takeOrder F free (orderFor F free left)
 unfoldable pub without : (ℕ → Bool) → ℕ → ℕ → ℕ → Bool
 without free k s g = free g && not (inBlock k s g)
 
+-- the pages left once block b is taken
+abbrev pub leftAfter : ℕ → Block → ℕ
+leftAfter left b = left - 2 ^ (b .order)
+
 -- "Blocks go to ascending pages until none are left." At most `most` blocks: no request takes more blocks than it has pages
 unfoldable pub takeBlocks : ℕ → ℕ → (ℕ → Bool) → ℕ → List Block
 takeBlocks zero F free left = []
 takeBlocks (suc most) F free left =
     elim (takeBlock F free left) [
       | none ↦ []
-      | some b ↦ b ∷ takeBlocks most F (without free (b .order) (b .start .0)) (left - 2 ^ (b .order))
+      | some b ↦ b ∷ takeBlocks most F (without free (b .order) (b .start .0)) (leftAfter left b)
     ]
 
 -- the frames of a list of blocks, in page order

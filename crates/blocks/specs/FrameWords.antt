@@ -10,12 +10,22 @@ use Rattle.words.specs.Tables.{tabulate}
 use Rattle.words.specs.Searches.{every, firstFrom}
 use Rattle.blocks.specs.Blocks.{freeBlock}
 
+-- "Frames, 4,096 words"
+abbrev pub bufferLength : ℕ
+bufferLength = 4096
+
+abbrev pub largestPool : ℕ
+largestPool = 4096
+
+abbrev pub largestOwner : ℕ
+largestOwner = 4096
+
 -- "pool size F (1 to 4,096)"
 unfoldable pub isPoolSize : ℕ → Bool
-isPoolSize F = leb 1 F && leb F 4096
+isPoolSize F = leb 1 F && leb F largestPool
 
 unfoldable pub isOwner : ℕ → Bool
-isOwner w = leb 1 w && leb w 4096
+isOwner w = leb 1 w && leb w largestOwner
 
 -- the owner that a word names, 0 where it names none
 unfoldable pub ownerOf : ℕ → ℕ
@@ -33,34 +43,46 @@ unfoldable pub freeIn : List ℕ → ℕ → Bool
 freeIn b = freeOf (ownersOf b)
 
 -- a frame whose word names an owner
-unfoldable pub heldIn : List ℕ → ℕ → Bool
-heldIn b f = isOwner (getD b f 0)
+unfoldable pub ownedIn : List ℕ → ℕ → Bool
+ownedIn b f = isOwner (getD b f 0)
+
+-- "first frame of a free block = 16,384 + order"
+abbrev pub firstOf : ℕ → ℕ
+firstOf order = 16384 + order
+
+-- "other free frame = 8,192"
+abbrev pub otherFree : ℕ
+otherFree = 8192
+
+-- "at or above F = 65,535"
+abbrev pub outside : ℕ
+outside = 65535
 
 unfoldable pub firstOrOther : Option ℕ → ℕ
-firstOrOther (some k) = 16384 + k
-firstOrOther none = 8192
+firstOrOther (some k) = firstOf k
+firstOrOther none = otherFree
 
--- "first frame of a free block = 16,384 + order; other free frame = 8,192"
+-- the word of a free frame
 unfoldable pub freeWord : ℕ → (ℕ → Bool) → ℕ → ℕ
 freeWord F free f = firstOrOther (firstFrom 11 0 (λ k. freeBlock F free k f))
 
 -- w can stand at place f: an owner or the free frame's word below F, and 65,535 at or above F
 unfoldable pub lawfulAt : ℕ → (ℕ → Bool) → ℕ → ℕ → Bool
-lawfulAt F free f w = elim (ltb f F) [ true ↦ isOwner w || eqb w (freeWord F free f) | false ↦ eqb w 65535 ]
+lawfulAt F free f w = elim (ltb f F) [ true ↦ isOwner w || eqb w (freeWord F free f) | false ↦ eqb w outside ]
 
 -- the frame buffer's part of what document 01 calls sound. An owner may stand at several frames here:
 -- that it stands at one only follows from "frame and page words point at each other", which is for the tables above
 unfoldable pub lawful : ℕ → List ℕ → Bool
-lawful F b = eqb (length b) 4096 && (isPoolSize F && every (lawfulAt F (freeIn b)) 0 b)
+lawful F b = eqb (length b) bufferLength && (isPoolSize F && every (lawfulAt F (freeIn b)) 0 b)
 
 -- the word of frame f, where owner g is the owner of frame g and 0 says that it is free
 unfoldable pub frameWord : ℕ → (ℕ → ℕ) → ℕ → ℕ
 frameWord F owner f =
     elim (ltb f F) [
       | true ↦ elim (eqb (owner f) 0) [ true ↦ freeWord F (freeOf owner) f | false ↦ owner f ]
-      | false ↦ 65535
+      | false ↦ outside
     ]
 
 -- the whole buffer
 unfoldable pub frameWords : ℕ → (ℕ → ℕ) → List ℕ
-frameWords F owner = tabulate 4096 (frameWord F owner)
+frameWords F owner = tabulate bufferLength (frameWord F owner)

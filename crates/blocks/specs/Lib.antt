@@ -3,5 +3,5 @@ pub mod FrameWords
 pub mod Choice
 pub mod Owners
 pub mod Calls
-pub mod Around
-pub mod Passes
+pub mod Statements
+pub mod Inner

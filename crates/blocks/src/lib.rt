@@ -15,6 +15,15 @@ pub struct Bound {
     pub from: Frame,
 }
 
+// The calls on the pool, with their arguments; allocate takes as many frames as the list that it is lent has places.
+pub enum PoolCall {
+    SetUp(u32),
+    Check(u32),
+    Count(u32),
+    Allocate { pool: u32, owner: u32 },
+    Free { pool: u32, owner: u32, count: u32 },
+}
+
 // What a call on the pool answers: its first value, or why it is refused.
 pub enum Reply {
     Done(u32),

@@ -8,8 +8,8 @@ ghost use Rattle.words.specs.Counts.{one-if};
 ghost use Rattle.words.specs.Searches.{allFrom};
 ghost use Rattle.words.specs.Writes.{Filled, CountedUp};
 ghost use Rattle.blocks.specs.FrameWords.{ownerOf, freeIn};
-ghost use Rattle.blocks.specs.Around.{startOf};
-ghost use Rattle.blocks.specs.Passes.{HeldTo};
+ghost use Rattle.blocks.specs.Inner.Around.{startOf};
+ghost use Rattle.blocks.specs.Inner.Passes.{HeldTo};
 
 // The owner that a frame word names, 0 for a free frame.
 pub fn owner_of(w: u32) -> u32

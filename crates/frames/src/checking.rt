@@ -4,8 +4,8 @@ ghost use mathlib.Core.Bool.{true};
 ghost use Prim.Native.Nat.{_≤_, _<_};
 ghost use lib.ListN.{length, getD};
 ghost use Rattle.words.specs.Counts.{count};
-ghost use Rattle.blocks.specs.FrameWords.{freeIn, heldIn, lawful};
-ghost use Rattle.blocks.specs.Passes.{Edge, Checked};
+ghost use Rattle.blocks.specs.FrameWords.{freeIn, ownedIn, lawful};
+ghost use Rattle.blocks.specs.Inner.Passes.{Edge, Checked};
 use crate::buffer::held_to;
 use crate::buffer::size_of;
 use crate::settling::can_start;
@@ -80,7 +80,7 @@ fn block_at(frames: &[u32], pool: u32, f: Frame) -> Frame
 // Whether the buffer is lawful for a pool of `pool` frames, and how many frames are held where it is.
 pub fn judge(frames: &[u32], pool: u32) -> Judged
     ensures { λ r. ⌜ r .lawful ≡ lawful pool (now (frames .entry)) ⌝ }
-    ensures { λ r. ⌜ (r .lawful ≡ true → r .held ≡ count pool (heldIn (now (frames .entry)))) ⌝ }
+    ensures { λ r. ⌜ (r .lawful ≡ true → r .held ≡ count pool (ownedIn (now (frames .entry)))) ⌝ }
 {
     let unlawful = Judged {
         lawful: false,

@@ -6,7 +6,7 @@ ghost use Prim.Native.Nat.{ℕ, _+_, _≤_, _<_};
 ghost use lib.ListN.{length};
 ghost use Rattle.blocks.specs.FrameWords.{freeIn, lawful};
 ghost use Rattle.blocks.specs.Choice.{takeBlock};
-ghost use Rattle.blocks.specs.Passes.{orderWithin, orderAt, least, asBlock, Searched, scanFrom, boundAfter};
+ghost use Rattle.blocks.specs.Inner.Passes.{orderWithin, orderAt, least, asBlock, Searched, scanFrom, boundAfter};
 use crate::buffer::size_of;
 use crate::buffer::start_of;
 use blocks::Block;

@@ -6,7 +6,7 @@ ghost use Rattle.words.specs.Counts.{count};
 ghost use Rattle.words.specs.Searches.{allFrom, anyFrom};
 ghost use Rattle.blocks.specs.FrameWords.{ownersOf, freeIn, frameWords};
 ghost use Rattle.blocks.specs.Owners.{inSpan, cleared, freed, holds};
-ghost use Rattle.blocks.specs.Passes.{ClearedTo, MarkedOne, MarkedTo};
+ghost use Rattle.blocks.specs.Inner.Passes.{ClearedTo, MarkedOne, MarkedTo};
 use crate::buffer::fill;
 use crate::buffer::one_if_free;
 use crate::buffer::owner_of;

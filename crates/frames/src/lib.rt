@@ -1,18 +1,18 @@
 // The frame pool as it ships: set up, check, count, allocate and free over a lent buffer of 4,096 frame words.
-// Each call judges what it is lent. The functions of `cores` ask for that beforehand, and serve callers that have judged it themselves.
+// Each call judges what it is lent. The functions of `unchecked` ask for that beforehand, and serve callers that have judged it themselves.
 mod buffer;
 mod checking;
 mod choosing;
-pub mod cores;
 mod freeing;
 mod settling;
 mod taking;
+pub mod unchecked;
 
 ghost use mathlib.Core.Path.{_≡_};
-ghost use Prim.Native.Nat.{ℕ};
-ghost use lib.ListN.{length};
+ghost use mathlib.Core.List.{[]};
+ghost use Rattle.blocks.specs.declared.PoolCall.the-variants.{SetUp, Check, Count, Allocate, Free};
 ghost use Rattle.blocks.specs.FrameWords.{isPoolSize};
-ghost use Rattle.blocks.specs.Calls.{outcome, inOwners, SetUp, checkReply, countReply, Allocated, Freed};
+ghost use Rattle.blocks.specs.Calls.{outcome, lent, inOwners, Called};
 use crate::checking::lawful;
 use crate::freeing::all_held;
 use crate::freeing::any_held;
@@ -98,7 +98,7 @@ fn in_owners(owner: u32, n: usize) -> bool
 
 // Sets up the words of a pool whose `pool` frames are all free. Refused: 1, 4.
 pub fn set_up(frames: &mut [u32], pool: u32) -> Reply
-    ensures { λ r. ⌜ SetUp pool (now (frames .entry)) r (now (frames .exit)) ⌝ }
+    ensures { λ r. ⌜ Called (SetUp pool) (lent (now (frames .entry)) []) (outcome r) (lent (now (frames .exit)) []) ⌝ }
 {
     if frames.len() != 4096 {
         return Reply::WrongLength;
@@ -113,7 +113,7 @@ pub fn set_up(frames: &mut [u32], pool: u32) -> Reply
 
 // Whether the words are lawful for a pool of `pool` frames. Refused: 1, 2, 4.
 pub fn check(frames: &[u32], pool: u32) -> Reply
-    ensures { λ r. ⌜ r ≡ checkReply pool (now (frames .entry)) ⌝ }
+    ensures { λ r. ⌜ Called (Check pool) (lent (now (frames .entry)) []) (outcome r) (lent (now (frames .entry)) []) ⌝ }
 {
     if frames.len() != 4096 {
         return Reply::WrongLength;
@@ -131,7 +131,7 @@ pub fn check(frames: &[u32], pool: u32) -> Reply
 
 // How many frames are free, counted singly. Refused: 1, 2, 4.
 pub fn count(frames: &[u32], pool: u32) -> Reply
-    ensures { λ r. ⌜ r ≡ countReply pool (now (frames .entry)) ⌝ }
+    ensures { λ r. ⌜ Called (Count pool) (lent (now (frames .entry)) []) (outcome r) (lent (now (frames .entry)) []) ⌝ }
 {
     let judged = check(frames, pool);
     let o = outcome(judged);
@@ -144,7 +144,7 @@ pub fn count(frames: &[u32], pool: u32) -> Reply
 // Takes out.len() frames for the owners from `owner` on, by the map rule: their numbers into `out`, in page order.
 // The value is the number of blocks. Refused: 1, 2, 4, 8, 11, 14.
 pub fn allocate(frames: &mut [u32], pool: u32, owner: u32, out: &mut [u32]) -> Reply
-    ensures { λ r. ⌜ Allocated pool (now (frames .entry)) owner (now (out .entry)) r (now (frames .exit)) (now (out .exit)) ⌝ }
+    ensures { λ r. ⌜ Called (Allocate pool owner) (lent (now (frames .entry)) (now (out .entry))) (outcome r) (lent (now (frames .exit)) (now (out .exit))) ⌝ }
 {
     let judged = check(frames, pool);
     let o = outcome(judged);
@@ -169,7 +169,7 @@ pub fn allocate(frames: &mut [u32], pool: u32, owner: u32, out: &mut [u32]) -> R
 
 // Frees every frame of the n owners from `owner` on. The value is the number of frames that became free. Refused: 1, 2, 4, 8, 12.
 pub fn free(frames: &mut [u32], pool: u32, owner: u32, n: u32) -> Reply
-    ensures { λ r. ⌜ Freed pool (now (frames .entry)) owner n r (now (frames .exit)) ⌝ }
+    ensures { λ r. ⌜ Called (Free pool owner n) (lent (now (frames .entry)) []) (outcome r) (lent (now (frames .exit)) []) ⌝ }
 {
     let judged = check(frames, pool);
     let o = outcome(judged);

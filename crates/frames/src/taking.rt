@@ -6,7 +6,7 @@ ghost use lib.ListN.{length};
 ghost use Rattle.words.specs.Counts.{count};
 ghost use Rattle.blocks.specs.FrameWords.{ownersOf, freeIn, lawful, frameWords};
 ghost use Rattle.blocks.specs.Calls.{Taken};
-ghost use Rattle.blocks.specs.Passes.{Halved, Begins, handed};
+ghost use Rattle.blocks.specs.Inner.Passes.{Halved, Begins, handed};
 use crate::buffer::count_up;
 use crate::buffer::size_of;
 use crate::choosing::bound_after;

@@ -13,7 +13,7 @@ use Rattle.words.specs.Counts.{count}
 use Rattle.words.specs.Searches.{allFrom, every}
 use Rattle.words.proofs.Cases.{by-test, by-dec, true-false}
 use Rattle.words.proofs.SearchLaws.{allFrom-at, at-allFrom, every-at, at-every}
-use Rattle.blocks.specs.FrameWords.{heldIn, lawful}
+use Rattle.blocks.specs.FrameWords.{ownedIn, lawful}
 use Rattle.blocks.proofs.Published.{size-test}
 use Rattle.control.specs.Control.{poolSize, openMask, isOpen, lawfulControl}
 use Rattle.control.proofs.ControlLaws.{lawful-says}
@@ -81,7 +81,7 @@ module _ (T : Tables) (l : Lengths T) where
       rw (zero-add k) (rw k-is at ok))
 
   spaces-sound : lawfulControl (T .control) ≡ true → lawful (poolSize (T .control)) (T .frames) ≡ true → allFrom 4 0 space ≡ true
-      → count 4096 (pageMapped (T .pages)) ≡ count (poolSize (T .control)) (heldIn (T .frames)) → sound T ≡ true
+      → count 4096 (pageMapped (T .pages)) ≡ count (poolSize (T .control)) (ownedIn (T .frames)) → sound T ≡ true
   unfolding spaceSound pageMapped
   spaces-sound c u t e =
       let at : (s : ℕ) → s ≤ 3 → space s ≡ true = λ s h. allFrom-at 4 0 space t s zero-le (omega arith) in
@@ -110,7 +110,7 @@ module _ (c fs ps rs : List ℕ) where
           (λ y. true-false (allFrom 4 0 (spaceSound mask fs F ps rs)) (rw (m, e) (sound-spaces (tables c fs ps rs) l (sound-parts _ y))) f)
           (λ n. sym n)
 
-      pub by-counting : allFrom 4 0 (spaceSound mask fs F ps rs) ≡ true → (p q : ℕ) → p ≡ count 4096 (pageMapped ps) → q ≡ count F (heldIn fs) → eqb p q ≡ sound (tables c fs ps rs)
+      pub by-counting : allFrom 4 0 (spaceSound mask fs F ps rs) ≡ true → (p q : ℕ) → p ≡ count 4096 (pageMapped ps) → q ≡ count F (ownedIn fs) → eqb p q ≡ sound (tables c fs ps rs)
       unfolding pageMapped
       by-counting v p q ep eq =
           by-dec (ℕ-discrete p q)

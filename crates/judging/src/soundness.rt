@@ -35,7 +35,7 @@ pub fn tables_sound(control: &[u32], frames: &[u32], pages: &[u32], ranges: &[u3
         return false;
     }
     let pool = control::pool_size(control);
-    let judged = frames::cores::judge(frames, pool);
+    let judged = frames::unchecked::judge(frames, pool);
     if !judged.lawful {
         return false;
     }

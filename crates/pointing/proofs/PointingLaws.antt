@@ -15,7 +15,7 @@ use Rattle.words.specs.Searches.{every}
 use Rattle.words.proofs.Cases.{by-test, by-dec, true-false, and-true, true-and}
 use Rattle.words.proofs.SearchLaws.{every-at, at-every}
 use Rattle.words.proofs.CountLaws.{count-ext, count-all, count-not, count-pairs}
-use Rattle.blocks.specs.FrameWords.{isOwner, ownerOf, ownersOf, freeOf, freeIn, heldIn}
+use Rattle.blocks.specs.FrameWords.{isOwner, ownerOf, ownersOf, freeOf, freeIn, ownedIn}
 use Rattle.runs.specs.PageWords.{mapped, frameIn}
 use Rattle.pointing.specs.Pointing.{holds, pageOk, frameOk, pointed}
 
@@ -68,8 +68,8 @@ owner-word v i e =
     (λ gt. absurd (omega (arith, e, owner-high v (omega arith))))
 
 -- a frame is free or has an owner
-free-not : (fs : List ℕ) (f : ℕ) → freeIn fs f ≡ not (heldIn fs f)
-unfolding heldIn freeIn freeOf ownersOf ownerOf
+free-not : (fs : List ℕ) (f : ℕ) → freeIn fs f ≡ not (ownedIn fs f)
+unfolding ownedIn freeIn freeOf ownersOf ownerOf
 free-not fs f =
     by-test (isOwner (getD fs f 0))
     (λ o. let b = owner-test (getD fs f 0) o .0 in rw (o, ownerOf) (ne-eqb (getD fs f 0) 0 (λ z. omega arith)))
@@ -122,10 +122,10 @@ module _ (fs ps : List ℕ) (F : ℕ) (t : pointed fs ps F ≡ true) (frames : l
         at-holds (getD ps i 0) f (rw p at (r .0)) (rw p at (r .1))
 
     -- as many pages are mapped as frames are held
-    pub mapped-held : count 4096 (λ i. mapped (getD ps i 0)) ≡ count F (heldIn fs)
-    unfolding heldIn
+    pub mapped-held : count 4096 (λ i. mapped (getD ps i 0)) ≡ count F (ownedIn fs)
+    unfolding ownedIn
     mapped-held =
-        count-pairs 4096 F (λ i. mapped (getD ps i 0)) (heldIn fs) (λ i. frameIn (getD ps i 0)) (λ f. getD fs f 0 - 1)
+        count-pairs 4096 F (λ i. mapped (getD ps i 0)) (ownedIn fs) (λ i. frameIn (getD ps i 0)) (λ f. getD fs f 0 - 1)
         (record {
           there = λ i h m.
               let s = page-at i h m in
@@ -140,8 +140,8 @@ module _ (fs ps : List ℕ) (F : ℕ) (t : pointed fs ps F ≡ true) (frames : l
     -- free frames counted singly and mapped pages are all frames of the pool
     pub balance : count F (freeIn fs) + count 4096 (λ i. mapped (getD ps i 0)) ≡ F
     balance =
-        let a = count-not F (heldIn fs) in
-        let b : count F (freeIn fs) ≡ count F (λ f. not (heldIn fs f)) = count-ext F (freeIn fs) _ (λ f h. free-not fs f) in
+        let a = count-not F (ownedIn fs) in
+        let b : count F (freeIn fs) ≡ count F (λ f. not (ownedIn fs f)) = count-ext F (freeIn fs) _ (λ f h. free-not fs f) in
         omega (arith, a, b, mapped-held)
 
 -- words point at each other as soon as a place is mapped with a frame exactly where it is the owner of that frame
@@ -202,11 +202,11 @@ module _ (fs ps : List ℕ) (F : ℕ) (frames : length fs ≡ 4096) (pages : len
               (omega (arith, b .0, b .1), s .0, s .1);
         })
 
-    all-named : count 4096 (λ i. mapped (getD ps i 0)) ≡ count F (heldIn fs) → (f : ℕ) → f < F → isOwner (getD fs f 0) ≡ true → named f ≡ true
-    unfolding named heldIn
-    all-named e = count-all F named (heldIn fs) (λ f h o. and-true _ _ o .0) (sym named-mapped ∙ e)
+    all-named : count 4096 (λ i. mapped (getD ps i 0)) ≡ count F (ownedIn fs) → (f : ℕ) → f < F → isOwner (getD fs f 0) ≡ true → named f ≡ true
+    unfolding named ownedIn
+    all-named e = count-all F named (ownedIn fs) (λ f h o. and-true _ _ o .0) (sym named-mapped ∙ e)
 
-    frames-pass : count 4096 (λ i. mapped (getD ps i 0)) ≡ count F (heldIn fs) → (f : ℕ) → frameOk ps F f (getD fs f 0) ≡ true
+    frames-pass : count 4096 (λ i. mapped (getD ps i 0)) ≡ count F (ownedIn fs) → (f : ℕ) → frameOk ps F f (getD fs f 0) ≡ true
     unfolding named
     frames-pass e f =
         by-dec (decLt f F)
@@ -215,6 +215,6 @@ module _ (fs ps : List ℕ) (F : ℕ) (frames : length fs ≡ 4096) (pages : len
         (λ o. sym (frame-free ps F f (getD fs f 0) (λ lo hi. true-false (isOwner (getD fs f 0)) (test-owner (getD fs f 0) lo hi) o))))
         (λ ge. sym (frame-over ps F f (getD fs f 0) (omega arith)))
 
-  pub by-count : every (pageOk fs F) 0 ps ≡ true → count 4096 (λ i. mapped (getD ps i 0)) ≡ count F (heldIn fs) → pointed fs ps F ≡ true
+  pub by-count : every (pageOk fs F) 0 ps ≡ true → count 4096 (λ i. mapped (getD ps i 0)) ≡ count F (ownedIn fs) → pointed fs ps F ≡ true
   unfolding pointed
   by-count t e = true-and _ _ t (at-every (frameOk ps F) 0 fs 0 (λ k h. rw (zero-add k) (frames-pass t e k)))

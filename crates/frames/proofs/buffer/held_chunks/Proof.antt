@@ -2,7 +2,7 @@ use mathlib.Core.Path.{sym, _∙_}
 use Prim.Native.Nat.{_-_}
 use native.Mathlib.Omega.{arith}
 use borrow.Author.Tests.{not-false}
-use Rattle.blocks.specs.Passes.{HeldTo}
+use Rattle.blocks.specs.Inner.Passes.{HeldTo}
 use Rattle.blocks.proofs.HeldLaws.{held-none, held-chunk, held-more}
 use borrow.Author.Needs.{needs}
 use Rattle.frames.proofs.buffer.held_chunks.Statement.{statement}

@@ -1,7 +1,7 @@
 use mathlib.Core.Path.{sym, _∙_}
 use Prim.Native.Nat.{_-_}
 use native.Mathlib.Omega.{arith}
-use Rattle.blocks.specs.Passes.{HeldTo}
+use Rattle.blocks.specs.Inner.Passes.{HeldTo}
 use Rattle.blocks.proofs.WordLaws.{is-free, is-held}
 use Rattle.blocks.proofs.HeldLaws.{held-none, held-one, held-more}
 use borrow.Author.Needs.{needs}

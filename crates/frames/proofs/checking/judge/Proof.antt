@@ -5,7 +5,7 @@ use native.Mathlib.Omega.{arith}
 use Rattle.words.specs.Counts.{count}
 use Rattle.words.proofs.Cases.{true-false}
 use Rattle.words.proofs.CountLaws.{count-le}
-use Rattle.blocks.specs.FrameWords.{freeIn, heldIn}
+use Rattle.blocks.specs.FrameWords.{freeIn, ownedIn}
 use Rattle.blocks.proofs.WordLaws.{lawful-no}
 use Rattle.blocks.proofs.SettleLaws.{Sofar, at-start, one-turn, held-turn, lawful-wrong, lawful-tail}
 use Rattle.blocks.proofs.HeldLaws.{held-start, count-held, count-block}
@@ -19,7 +19,7 @@ use Rattle.frames.proofs.checking.block_at.Reads as block-at-reads
 use Rattle.words.proofs.scans.all_same.Reads as all-same-reads
 
 abbrev Inv-loop : tie.InvT-loop
-Inv-loop frames pool unlawful end f₀ held₀ f held = Sofar pool frames frames f × ((held ≡ count f (heldIn frames)) × ((f ≡ pool → ⊥) → freeIn frames f ≡ true))
+Inv-loop frames pool unlawful end f₀ held₀ f held = Sofar pool frames frames f × ((held ≡ count f (ownedIn frames)) × ((f ≡ pool → ⊥) → freeIn frames f ≡ true))
 
 abbrev μ-loop : tie.MeasureT-loop
 μ-loop frames pool unlawful end f₀ held₀ f held = pool - f
@@ -72,7 +72,7 @@ sub-held c = omega (arith, c .held-to2 .ensures .0 .from)
 
 -- src/checking.rt:88:9
 add-held : tie.Need-add-held Inv-loop μ-loop
-add-held c = omega (arith, c .before .before .before .before .before .before .loop .inv .1 .0, c .before .before .before .before .before .before .loop .inv .0 .fits, c .held-to2 .ensures .0 .to, count-le (c .before .before .before .before .before .before .loop .f) (heldIn (c .before .before .before .before .before .before .before .before .before .before .before .before .args .frames .now)))
+add-held c = omega (arith, c .before .before .before .before .before .before .loop .inv .1 .0, c .before .before .before .before .before .before .loop .inv .0 .fits, c .held-to2 .ensures .0 .to, count-le (c .before .before .before .before .before .before .loop .f) (ownedIn (c .before .before .before .before .before .before .before .before .before .before .before .before .args .frames .now)))
 
 -- src/checking.rt:81:5
 loop-less : tie.Need-loop-less Inv-loop μ-loop
@@ -91,7 +91,7 @@ all-same-requires c κs = (omega arith, omega arith)
 
 -- src/checking.rt:93:15
 cast-t16 : tie.Need-cast-t16 Inv-loop μ-loop
-cast-t16 c = omega (arith, c .before .before .loop .inv .1 .0, c .before .before .loop .inv .0 .fits, count-le (c .before .before .loop .f) (heldIn (c .before .before .before .before .before .before .before .before .args .frames .now)))
+cast-t16 c = omega (arith, c .before .before .loop .inv .1 .0, c .before .before .loop .inv .0 .fits, count-le (c .before .before .loop .f) (ownedIn (c .before .before .before .before .before .before .before .before .args .frames .now)))
 
 -- src/checking.rt:61:1
 returns-5 : tie.Need-returns-5 Inv-loop μ-loop

@@ -5,9 +5,9 @@ use mathlib.Core.Path.{_≡_, refl}
 use Prim.Native.Nat.{_≤_, _-_, _+_}
 use native.Mathlib.Omega.{arith}
 use lib.Pow.{pow-pos}
-use Rattle.blocks.specs.Around.{startOf}
+use Rattle.blocks.specs.Inner.Around.{startOf}
 use Rattle.blocks.specs.FrameWords.{freeIn}
-use Rattle.blocks.specs.Passes.{Clear}
+use Rattle.blocks.specs.Inner.Passes.{Clear}
 use Rattle.blocks.proofs.AroundLaws.{order-size}
 use Rattle.blocks.proofs.WordLaws.{lawful-is}
 use Rattle.blocks.proofs.SearchedLaws.{None, none-zero, least-is, tried-small, scan-start, passed, skipped, chosen, chosen-none}

@@ -5,7 +5,7 @@ use mathlib.Core.Path.{_≡_, refl}
 use Prim.Native.Nat.{_≤_, _-_}
 use native.Mathlib.Omega.{arith}
 use lib.ListN.{length, length-set}
-use Rattle.blocks.specs.Passes.{ClearedTo}
+use Rattle.blocks.specs.Inner.Passes.{ClearedTo}
 use Rattle.blocks.proofs.FreeLaws.{cleared-none, cleared-more}
 
 abbrev Inv-loop : tie.InvT-loop

@@ -5,7 +5,7 @@ use mathlib.Core.Path.{_≡_, refl, _∙_}
 use Prim.Native.Nat.{_≤_, _-_, zero-le}
 use native.Mathlib.Omega.{arith}
 use lib.ListN.{length}
-use Rattle.blocks.specs.Passes.{MarkedTo}
+use Rattle.blocks.specs.Inner.Passes.{MarkedTo}
 use Rattle.blocks.proofs.FreeLaws.{marks-none, marks-turn}
 
 abbrev Inv-loop : tie.InvT-loop

@@ -4,7 +4,7 @@ use Prim.Native.Nat.{_≤_, _-_}
 use native.Mathlib.Omega.{arith}
 use borrow.Author.Tests.{not-true, not-false}
 use Rattle.blocks.specs.FrameWords.{freeIn}
-use Rattle.blocks.specs.Around.{around}
+use Rattle.blocks.specs.Inner.Around.{around}
 use Rattle.blocks.proofs.SettleLaws.{start-zero, no-more}
 use borrow.Author.Needs.{needs}
 use Rattle.frames.proofs.settling.grow.Statement.{statement}

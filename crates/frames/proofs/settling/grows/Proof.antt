@@ -48,7 +48,7 @@ add-end c = omega (arith, order-size (c .before .before .before .before .before 
 
 -- src/settling.rt:43:9
 returns-2 : tie.Need-returns-2
-returns-2 c = past-end _ _ _ (c .before .before .before .before .before .before .before .before .pre .1 .1 .1 .1 .0) _ (omega arith) _ (c .before .before .size-of2 .ensures) (c .if2 .taken)
+returns-2 c = past-end _ _ _ (c .before .before .before .before .before .before .before .before .pre .1 .1 .1 .1 .0) _ (omega arith) _ (c .before .before .size-of2 .ensures) (omega arith)
 
 -- src/settling.rt:45:22
 cast-all-free : tie.Need-cast-all-free
@@ -64,7 +64,7 @@ all-free-requires c κs = omega (arith, double (c .before .before .before .befor
 
 -- src/settling.rt:28:1
 returns-3 : tie.Need-returns-3
-returns-3 c = c .all-free .ensures ∙ upper-decides _ _ _ (c .before .before .before .before .before .before .before .before .before .pre .1 .1 .1 .1 .0) _ (omega arith) _ _ (c .before .before .before .before .before .size-of .ensures) (c .before .before .before .size-of2 .ensures) (c .before .before .before .before .before .before .before .before .before .pre .1 .1 .1 .1 .1) (eqb-true _ _ (sym (c .before .before .before .before .before .before .before .can-start .ensures) ∙ not-false _ (c .before .before .before .before .before .before .if1 .left))) (c .before .if2 .left)
+returns-3 c = c .all-free .ensures ∙ upper-decides _ _ _ (c .before .before .before .before .before .before .before .before .before .pre .1 .1 .1 .1 .0) _ (omega arith) _ _ (c .before .before .before .before .before .size-of .ensures) (c .before .before .before .size-of2 .ensures) (c .before .before .before .before .before .before .before .before .before .pre .1 .1 .1 .1 .1) (eqb-true _ _ (sym (c .before .before .before .before .before .before .before .can-start .ensures) ∙ not-false _ (c .before .before .before .before .before .before .if1 .left))) (omega arith)
 
 pub grows-spec : {M : Type 1} → statement M
 grows-spec =

@@ -6,7 +6,7 @@ use mathlib.Core.Path.{_≡_, refl}
 use Prim.Native.Nat.{_≤_, _-_}
 use native.Mathlib.Omega.{arith}
 use lib.ListN.{length, length-set}
-use Rattle.blocks.specs.Passes.{Halved}
+use Rattle.blocks.specs.Inner.Passes.{Halved}
 use Rattle.blocks.proofs.TakeLaws.{halves-none, halves-more}
 
 abbrev Inv-loop : tie.InvT-loop

@@ -1,4 +1,4 @@
--- What the inner functions of `frames` promise: each a step of a pass over the buffer, said of single words.
+-- What the inner functions of `frames` promise, and nothing else does: each a step of a pass over the buffer, said of single words.
 use mathlib.Core.Path.{_≡_}
 use mathlib.Core.Bool.{Bool, true, false}
 use mathlib.Core.List.{List}
@@ -11,10 +11,10 @@ use Rattle.words.specs.Searches.{anyFrom, largest}
 use Rattle.blocks.specs.declared.Block.{Block}
 use Rattle.blocks.specs.declared.Bound.{Bound}
 use Rattle.blocks.specs.Blocks.{block, inBlock, freeBlock}
-use Rattle.blocks.specs.FrameWords.{ownersOf, freeIn, heldIn, frameWord}
+use Rattle.blocks.specs.FrameWords.{ownersOf, freeIn, ownedIn, frameWord}
 use Rattle.blocks.specs.Choice.{lowest}
 use Rattle.blocks.specs.Owners.{cleared}
-use Rattle.blocks.specs.Around.{startOf, around}
+use Rattle.blocks.specs.Inner.Around.{startOf, around}
 
 -- Settling and checking, block after block
 
@@ -34,7 +34,7 @@ pub record SettledTo (F : ℕ) (b : List ℕ) (f r : ℕ) (b′ : List ℕ) : Ty
 -- the frame after the free block at f where its words are lawful, or 0 where a word below F is not
 pub record Checked (F : ℕ) (b : List ℕ) (f r : ℕ) : Type 0 where
   pub good : (r ≡ 0 → ⊥) → SettledTo F b f r b
-  pub free : (g : ℕ) → f ≤ g → g < r → heldIn b g ≡ false
+  pub free : (g : ℕ) → f ≤ g → g < r → ownedIn b g ≡ false
   pub bad : r ≡ 0 → (g : ℕ) × (g < F) × (getD b g 0 ≡ frameWord F (ownersOf b) g → ⊥)
 
 -- the frames from s up to r, r left out and at most e, are held

@@ -1,4 +1,4 @@
-// What a layer above calls once it has judged the buffer itself.
+// What a layer above calls in place of the public calls: the judgement of the buffer by itself, and functions that ask for it beforehand.
 pub use crate::checking::Judged;
 pub use crate::checking::judge;
 pub use crate::freeing::count_free;

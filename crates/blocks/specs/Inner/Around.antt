@@ -1,9 +1,10 @@
--- The free block around a frame, found from the frame: a faster description of what Blocks and FrameWords define, as the laws of AroundLaws say.
+-- The free block around a frame, found from the frame: a faster description, for inner functions, of what Blocks and FrameWords define, as the laws of AroundLaws say.
 use mathlib.Core.Bool.{Bool, true, false, _&&_}
 use mathlib.Core.Option.{Option, none, some}
 use Prim.Native.Nat.{ℕ, _+_, _*_, _/_, _^_}
 use lib.Dec.{leb, eqb}
 use Rattle.words.specs.Searches.{allFrom, largest}
+use Rattle.blocks.specs.FrameWords.{firstOf, otherFree}
 
 -- the first frame of the block of order k that holds frame f
 unfoldable pub startOf : ℕ → ℕ → ℕ
@@ -19,5 +20,5 @@ freeOrder F free f = largest 10 (around F free f)
 
 -- the word of a free frame f whose free block has the order given
 unfoldable pub orderWord : ℕ → Option ℕ → ℕ
-orderWord f none = 8192
-orderWord f (some k) = elim (eqb (startOf k f) f) [ true ↦ 16384 + k | false ↦ 8192 ]
+orderWord f none = otherFree
+orderWord f (some k) = elim (eqb (startOf k f) f) [ true ↦ firstOf k | false ↦ otherFree ]
