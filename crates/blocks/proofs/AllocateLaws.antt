@@ -1,36 +1,36 @@
--- The loop that takes block after block: the whole answer is what is taken so far and the answer for the rest.
+-- One block taken, and what it leaves for the rest of the request.
 use mathlib.Core.Path.{_≡_, refl, ap, _∙_, sym, fun-ext}
 use mathlib.Core.Bool.{Bool, true}
-use mathlib.Core.List.{List, [], _∷_, _++_, append-assoc, append-nil}
-use mathlib.Core.Option.{Option, some}
-use Prim.Native.Nat.{ℕ, zero, suc, _+_, _/_, _^_, _-_, _<_, _≤_, zero-le}
-use native.Mathlib.Nat.{add-zero, min-eq-left}
+use mathlib.Core.List.{List, [], _∷_, _++_, append-nil}
+use mathlib.Core.Option.{Option, none, some}
+use Prim.Native.Nat.{ℕ, zero, suc, _+_, _/_, _^_, _-_, _<_, _≤_}
+use native.Mathlib.Nat.{add-zero}
 use native.Mathlib.Decide.{decLt, ℕ-discrete}
 use native.Mathlib.Omega.{arith}
-use lib.ListN.{length, getD, take, length-take, length-append, List·getD-append}
-use lib.Seq.{ext-getD, getD-take, getD-append-add, take-all}
+use lib.ListN.{length, getD}
+use lib.Seq.{ext-getD}
 use lib.Pow.{pow-pos}
 use borrow.Author.Tests.{eq-eqb, ne-eqb, leb-true, ltb-true, le-leb, lt-ltb}
 use Rattle.words.specs.Tables.{tabFrom}
 use Rattle.words.specs.Counts.{count}
-use Rattle.words.proofs.Cases.{by-test, by-dec, true-false, and-true, true-and}
-use Rattle.words.proofs.TableLaws.{length-tabFrom, getD-tabFrom}
+use Rattle.words.proofs.Cases.{by-test, by-dec, true-false, none-some, and-true, true-and}
 use Rattle.words.proofs.CountLaws.{count-some}
 use Rattle.words.specs.Writes.{CountedUp}
 use Rattle.blocks.specs.declared.Block.{Block}
 use Rattle.blocks.specs.declared.Bound.{Bound}
+use Rattle.blocks.specs.declared.Chosen.{Chosen}
 use Rattle.blocks.specs.Blocks.{inBlock}
 use Rattle.blocks.specs.FrameWords.{ownersOf, freeOf, freeIn, lawful, frameWords}
-use Rattle.blocks.specs.Choice.{takeBlock, without, leftAfter, takeBlocks, framesOf, blocksFor, framesFor, blockCount}
+use Rattle.blocks.specs.Choice.{takeBlock, without, takeBlocks, framesOf, blocksFor, framesFor}
 use Rattle.blocks.specs.Owners.{put, give}
-use Rattle.blocks.specs.Calls.{Taken}
+use Rattle.blocks.specs.Taking.{Searched, BlockTaken}
 use Rattle.blocks.specs.Inner.Around.{startOf}
-use Rattle.blocks.specs.Inner.Passes.{asBlock, Searched, boundAfter, Begins, handed}
+use Rattle.blocks.specs.Inner.Passes.{asBlock, boundAfter, Begins, handed}
 use Rattle.blocks.proofs.AroundLaws.{in-block}
-use Rattle.blocks.proofs.WordLaws.{owners-small, lawful-is, lawful-yes, lawful-table, owners-high, owners-again, table-lawful, block-word}
-use Rattle.blocks.proofs.ChoiceLaws.{Took, Taking, taking, one, end, took-free, took-start, took-count, fuel}
+use Rattle.blocks.proofs.WordLaws.{owners-small, lawful-is, lawful-yes, owners-high, owners-again, table-lawful, block-word}
+use Rattle.blocks.proofs.ChoiceLaws.{Took, Taking, taking, one, end, took-free, took-start, took-count, own, length-own, frames-cons, fuel}
 use Rattle.blocks.proofs.SearchedLaws.{known-after}
-use Rattle.blocks.proofs.TakeLaws.{handed-in, handed-out, free-after}
+use Rattle.blocks.proofs.TakeLaws.{handed-in, handed-out, free-after, PartFacts, part-facts}
 
 -- giving
 
@@ -69,71 +69,50 @@ give-in (suc m) s o owner g lo hi =
     let z : suc o + (g - suc s) ≡ o + (g - s) = omega arith in
     give-in m (suc s) (suc o) (put owner s o) g (omega arith) (omega arith) ∙ z)
 
-own : ℕ → ℕ → List ℕ
-own i s = tabFrom (2 ^ i) s (λ f. f)
+-- the owners after block x was given to the owners from o on
+handedTo : List ℕ → Block → ℕ → ℕ → ℕ
+handedTo b x o = handed (ownersOf b) (x .order) (x .start .0) o
 
-length-own : (i s : ℕ) → length (own i s) ≡ 2 ^ i
-unfolding own
-length-own i s = length-tabFrom (2 ^ i) s (λ f. f)
-
--- a block's frames given one by one
-give-own : (i s o : ℕ) (owner : ℕ → ℕ) → give owner o (own i s) ≡ handed owner i s o
-unfolding own handed inBlock
-give-own i s o owner =
+-- its frames given one by one
+give-own : (b : List ℕ) (x : Block) (o : ℕ) → give (ownersOf b) o (own x) ≡ handedTo b x o
+unfolding own handed inBlock handedTo
+give-own b x o =
+    let i : ℕ = x .order in
+    let s : ℕ = x .start .0 in
     fun-ext (λ g. by-test (inBlock i s g)
     (λ t.
     let p = and-true _ _ t in
-    rw (t, handed) (give-in (2 ^ i) s o owner g (leb-true _ _ (p .0)) (ltb-true _ _ (p .1))))
-    (λ t. rw (t, handed) (give-out (2 ^ i) s o owner g (λ lo hi. true-false (inBlock i s g) (true-and _ _ (le-leb s g lo) (lt-ltb g (s + 2 ^ i) hi)) t))))
+    rw (t, handed) (give-in (2 ^ i) s o (ownersOf b) g (leb-true _ _ (p .0)) (ltb-true _ _ (p .1))))
+    (λ t. rw (t, handed) (give-out (2 ^ i) s o (ownersOf b) g (λ lo hi. true-false (inBlock i s g) (true-and _ _ (le-leb s g lo) (lt-ltb g (s + 2 ^ i) hi)) t))))
 
--- the frames noted so far
-
-noted : (out : List ℕ) (d i z s : ℕ) (out′ : List ℕ) → z ≡ 2 ^ i → d + z ≤ length out → length out′ ≡ length out → CountedUp out d (d + z) s out′ → take (d + z) out′ ≡ take d out ++ own i s
-unfolding own
-noted out d i z s out′ ze fits len cu =
-    ext-getD 0 (take (d + z) out′) (take d out ++ own i s) (lens) (λ t h.
-    let lt : t < d + z = omega (arith, len-left) in
-    getD-take (d + z) out′ t 0 lt
-    ∙ by-dec (decLt t d)
-    (λ low.
-    let lw : t < length (take d out) = omega (arith, len-d) in
-    cu .below t low ∙ sym (List·getD-append (take d out) (own i s) 0 t lw ∙ getD-take d out t 0 low))
-    (λ high.
-    let e : length (take d out) + (t - d) ≡ t = omega (arith, len-d) in
-    let a : getD (take d out ++ own i s) (length (take d out) + (t - d)) 0 ≡ getD (own i s) (t - d) 0 = getD-append-add (take d out) (own i s) (t - d) 0 in
-    cu .inside t (omega arith) lt ∙ sym ((rw e at a) ∙ getD-tabFrom (2 ^ i) s (λ f. f) (t - d) 0 (omega arith))))
-  where
-    len-d : length (take d out) ≡ d
-    len-d = length-take d out ∙ min-eq-left (omega arith)
-
-    len-left : length (take (d + z) out′) ≡ d + z
-    len-left = length-take (d + z) out′ ∙ min-eq-left (omega arith)
-
-    lens : length (take (d + z) out′) ≡ length (take d out ++ own i s)
-    lens = len-left ∙ sym (length-append (take d out) (own i s) ∙ (omega (arith, len-d, length-own i s, ze)))
+give-one : (b : List ℕ) (x : Block) (o : ℕ) → give (ownersOf b) o (framesOf (x ∷ [])) ≡ handedTo b x o
+unfolding framesOf own
+give-one b x o = ap (give (ownersOf b) o) (append-nil (own x)) ∙ give-own b x o
 
 -- one block
 
-pub record Step (F : ℕ) (b : List ℕ) (left : ℕ) (x : Block) : Type 0 where
-  pub is : takeBlock F (freeIn b) left ≡ some x
-  pub took : Took F (freeIn b) left x
-
-pub step-is : (F : ℕ) (b : List ℕ) (left : ℕ) (x : Block) → 1 ≤ left → left ≤ count F (freeIn b) → x ≡ asBlock (takeBlock F (freeIn b) left) → Step F b left x
+-- there is one while a page is left and enough frames are free
+pub chosen-is : (F : ℕ) (b : List ℕ) (left : ℕ) (x : Block) → 1 ≤ left → left ≤ count F (freeIn b) → x ≡ asBlock (takeBlock F (freeIn b) left) → takeBlock F (freeIn b) left ≡ some x
 unfolding asBlock
-step-is F b left x pos enough e = go (takeBlock F (freeIn b) left) refl (taking F (freeIn b) left) e
+chosen-is F b left x pos enough e = go (takeBlock F (freeIn b) left) (taking F (freeIn b) left) e
   where
-    go : (o : Option Block) → takeBlock F (freeIn b) left ≡ o → Taking F (freeIn b) left o → x ≡ asBlock o → Step F b left x
-    go o e (one y w) xy = let s : y ≡ x = sym xy in record { is = e ∙ ap some s; took = rw s at w }
-    go o e (end n) xy = let r = count-some F (freeIn b) (omega arith) in absurd (n (r .0) (r .1) (r .2) pos)
+    go : (o : Option Block) → Taking F (freeIn b) left o → x ≡ asBlock o → o ≡ some x
+    go o (one y w) xy = ap some (sym xy)
+    go o (end n) xy = let r = count-some F (freeIn b) (omega arith) in absurd (n (r .0) (r .1) (r .2) pos)
 
--- the owners, and the words, after block x was given to the owners from o on
-pub handedTo : List ℕ → Block → ℕ → ℕ → ℕ
-handedTo b x o = handed (ownersOf b) (x .order) (x .start .0) o
+took : (F : ℕ) (free : ℕ → Bool) (left : ℕ) (x : Block) → takeBlock F free left ≡ some x → Took F free left x
+took F free left x e = go (takeBlock F free left) e (taking F free left)
+  where
+    go : (o : Option Block) → o ≡ some x → Taking F free left o → Took F free left x
+    go o eo (one y w) = let yx : y ≡ x = cc in rw yx at w
+    go o eo (end n) = none-some x none refl eo
 
-module _ (F : ℕ) (b : List ℕ) (lw : lawful F b ≡ true) (left : ℕ) (x : Block) (st : Step F b left x) where
-  pub step-begins : Begins F b (x .start .0) (x .order)
-  step-begins =
-      let w = st .took in
+module _ (F : ℕ) (b : List ℕ) (lw : lawful F b ≡ true) (left : ℕ) (x : Block) (is : takeBlock F (freeIn b) left ≡ some x) where
+  w : Took F (freeIn b) left x
+  w = took F (freeIn b) left x is
+
+  pub chosen-begins : Begins F b (x .start .0) (x .order)
+  chosen-begins =
       record {
         inside = w .from .inside;
         top = w .top;
@@ -141,24 +120,32 @@ module _ (F : ℕ) (b : List ℕ) (lw : lawful F b ≡ true) (left : ℕ) (x : B
         first = block-word F b (lawful-is F b lw) (w .top) (x .start .0) (w .from .inside) (w .from);
       }
 
-  pub step-order : x .order ≤ 10
-  step-order = let w = st .took in let a = w .below in let c = w .from .maximal .small in omega arith
+  chosen-part : PartFacts F b (x .start .0) (x .order) chosen-begins
+  chosen-part = part-facts F b lw (x .start .0) (x .order) chosen-begins
+
+  chosen-fits : 2 ^ (x .order) ≤ left
+  chosen-fits = w .fits
+
+  chosen-small : x .order ≤ 10
+  chosen-small = let a = w .below in let c = w .from .maximal .small in omega arith
+
+  chosen-inside : x .start .0 + 2 ^ (x .order) ≤ F
+  chosen-inside = let p = chosen-part in omega (arith, p .fits, p .less)
 
   -- the block, and then the blocks of the rest
-  step-all : blocksFor F (freeIn b) left ≡ x ∷ blocksFor F (without (freeIn b) (x .order) (x .start .0)) (leftAfter left x)
+  chosen-all : blocksFor F (freeIn b) left ≡ x ∷ blocksFor F (without (freeIn b) (x .order) (x .start .0)) (left - 2 ^ (x .order))
   unfolding blocksFor takeBlocks
-  step-all =
-      let w = st .took in
-      let fits = w .fits in
+  chosen-all =
+      let fits = chosen-fits in
       let pos : 0 < 2 ^ (x .order) = pow-pos (x .order) in
       let e : left ≡ suc (left - 1) = omega arith in
-      let a : takeBlocks (suc (left - 1)) F (freeIn b) left ≡ x ∷ takeBlocks (left - 1) F (without (freeIn b) (x .order) (x .start .0)) (leftAfter left x) = rw (st .is, takeBlocks) in
+      let a : takeBlocks (suc (left - 1)) F (freeIn b) left ≡ x ∷ takeBlocks (left - 1) F (without (freeIn b) (x .order) (x .start .0)) (left - 2 ^ (x .order)) = rw (is, takeBlocks) in
       ap (λ (n : ℕ). takeBlocks n F (freeIn b) left) e ∙ a
       ∙ ap {B = List Block} (λ r. x ∷ r) (fuel (left - 1) (leftAfter left x) F (without (freeIn b) (x .order) (x .start .0)) (leftAfter left x) (omega arith) (omega arith))
 
   module _ (o : ℕ) (pos : 1 ≤ o) (room : o + left ≤ 4097) where
     starts : startOf (x .order) (x .start .0) ≡ x .start .0
-    starts = took-start F (freeIn b) left x (st .took)
+    starts = took-start F (freeIn b) left x w
 
     then-low : (g : ℕ) → handedTo b x o g ≤ 4096
     unfolding handedTo
@@ -168,7 +155,7 @@ module _ (F : ℕ) (b : List ℕ) (lw : lawful F b ≡ true) (left : ℕ) (x : B
         let r = in-block (x .order) (x .start .0) g e in
         let hi = r .1 in
         let stt = starts in
-        let fits = st .took .fits in
+        let fits = chosen-fits in
         let z = handed-in (ownersOf b) (x .order) (x .start .0) o g starts e in
         omega arith)
         (λ n. let z = handed-out (ownersOf b) (x .order) (x .start .0) o g starts n in omega (arith, owners-small b g))
@@ -177,111 +164,93 @@ module _ (F : ℕ) (b : List ℕ) (lw : lawful F b ≡ true) (left : ℕ) (x : B
     unfolding handedTo
     then-high g h =
         by-dec (ℕ-discrete (g / 2 ^ (x .order)) (x .start .0 / 2 ^ (x .order)))
-        (λ e. let r = took-free F (freeIn b) left x (st .took) g e in let lt = r .0 in absurd (omega arith))
+        (λ e. let r = took-free F (freeIn b) left x w g e in let lt = r .0 in absurd (omega arith))
         (λ n. handed-out (ownersOf b) (x .order) (x .start .0) o g starts n ∙ owners-high F b (lawful-is F b lw) g h)
 
-    step-owners : ownersOf (frameWords F (handedTo b x o)) ≡ handedTo b x o
-    step-owners = owners-again F (handedTo b x o) then-low then-high (lawful-is F b lw .small)
+    -- the words left, as the code writes them
+    module _ (b′ : List ℕ) (be : b′ ≡ frameWords F (handedTo b x o)) where
+      then-owners : ownersOf b′ ≡ handedTo b x o
+      then-owners = ap ownersOf be ∙ owners-again F (handedTo b x o) then-low then-high (lawful-is F b lw .small)
 
-    step-lawful : lawful F (frameWords F (handedTo b x o)) ≡ true
-    step-lawful = let l = lawful-is F b lw in sym (lawful-yes F _ (table-lawful F (handedTo b x o) then-low then-high (l .small) (l .pos)))
+      then-lawful : lawful F b′ ≡ true
+      then-lawful = let l = lawful-is F b lw in rw be (sym (lawful-yes F _ (table-lawful F (handedTo b x o) then-low then-high (l .small) (l .pos))))
 
-    step-free : freeIn (frameWords F (handedTo b x o)) ≡ without (freeIn b) (x .order) (x .start .0)
-    unfolding freeIn handedTo
-    step-free = ap freeOf step-owners ∙ free-after (ownersOf b) (x .order) (x .start .0) o pos
+      then-free : freeIn b′ ≡ without (freeIn b) (x .order) (x .start .0)
+      unfolding freeIn handedTo
+      then-free = ap freeOf then-owners ∙ free-after (ownersOf b) (x .order) (x .start .0) o pos
 
--- the loop
+-- the promise of one block, from what the code does
 
-pub record Going (F : ℕ) (b₀ : List ℕ) (o n : ℕ) (b out : List ℕ) (done blocks : ℕ) (known : Bound) : Type 0 where
-  pub lawful : lawful F b ≡ true
-  pub at-most : done ≤ n
-  pub len : length out ≡ n
-  pub enough : n - done ≤ count F (freeIn b)
-  pub few : blocks ≤ done
-  pub blocks-are : blockCount F (freeIn b₀) n ≡ blocks + blockCount F (freeIn b) (n - done)
-  pub frames-are : framesFor F (freeIn b₀) n ≡ take done out ++ framesFor F (freeIn b) (n - done)
-  pub owners-are : give (ownersOf b₀) o (framesFor F (freeIn b₀) n) ≡ give (ownersOf b) (o + done) (framesFor F (freeIn b) (n - done))
-  pub cap : known .limit ≤ 10
-  pub searched : Searched F (freeIn b) known
-
-pub going-start : (F : ℕ) (b : List ℕ) (o n : ℕ) (out : List ℕ) (known : Bound) → lawful F b ≡ true → length out ≡ n → n ≤ count F (freeIn b) → known .limit ≤ 10 → Searched F (freeIn b) known
-    → Going F b o n b out 0 0 known
-going-start F b o n out known l len h cap searched =
-    let z : n - 0 ≡ n = omega arith in
-    let q : o + 0 ≡ o = add-zero o in
+pub block-taken : (F : ℕ) (b : List ℕ) → lawful F b ≡ true → (left : ℕ) (x : Block) → takeBlock F (freeIn b) left ≡ some x → (o : ℕ) → 1 ≤ o → o + left ≤ 4097 → 1 ≤ left
+    → (known next : Bound) → Searched F (freeIn b) known → next ≡ boundAfter known x left → (b′ : List ℕ) → b′ ≡ frameWords F (handed (ownersOf b) (x .order) (x .start .0) o)
+    → BlockTaken F b o left (record { block = x; known = next }) b′
+unfolding handedTo
+block-taken F b lw left x is o pos room some-left known next searched ne b′ be =
     record {
-      lawful = l;
-      at-most = zero-le;
-      len = len;
-      enough = omega arith;
-      few = zero-le;
-      blocks-are = rw z (omega arith);
-      frames-are = rw z refl;
-      owners-are = rw (z, q) refl;
-      cap = cap;
-      searched = searched;
+      chosen = is;
+      words = be ∙ ap (frameWords F) (sym (give-one b x o));
+      searched = rw (then-free F b lw left x is o pos room b′ be) (known-after F (freeIn b) left known next x some-left (chosen-small F b lw left x is) searched is ne);
     }
 
-frames-cons : (x : Block) (xs : List Block) → framesOf (x ∷ xs) ≡ own (x .order) (x .start .0) ++ framesOf xs
-unfolding framesOf own
-frames-cons x xs = refl
+-- what the block leaves for the rest of the request
+pub record Rest (F : ℕ) (b : List ℕ) (o left : ℕ) (x : Block) (b′ : List ℕ) : Type 0 where
+  pub small : x .order ≤ 10
+  pub fits : 2 ^ (x .order) ≤ left
+  pub inside : x .start .0 + 2 ^ (x .order) ≤ F
+  pub lawful : lawful F b′ ≡ true
+  pub enough : left - 2 ^ (x .order) ≤ count F (freeIn b′)
+  pub blocks : blocksFor F (freeIn b) left ≡ x ∷ blocksFor F (freeIn b′) (left - 2 ^ (x .order))
+  pub given : give (ownersOf b) o (framesFor F (freeIn b) left) ≡ give (ownersOf b′) (o + 2 ^ (x .order)) (framesFor F (freeIn b′) (left - 2 ^ (x .order)))
 
-pub going-on : (F : ℕ) (b₀ : List ℕ) (o n : ℕ) (b out : List ℕ) (done blocks : ℕ) (known next : Bound) (x : Block) (z : ℕ) (b′ out′ : List ℕ) → Going F b₀ o n b out done blocks known
-    → done < n → 1 ≤ o → o + n ≤ 4097 → Step F b (n - done) x → z ≡ 2 ^ (x .order)
-    → b′ ≡ frameWords F (handed (ownersOf b) (x .order) (x .start .0) (o + done))
-    → length out′ ≡ length out → CountedUp out done (done + z) (x .start .0) out′
-    → next .limit ≤ 10 → next ≡ boundAfter known x (n - done) → Going F b₀ o n b′ out′ (done + z) (blocks + 1) next
-unfolding handedTo blockCount framesFor
-going-on F b₀ o n b out done blocks known next x z b′ out′ w lt pos room st ze be olen cu cap ne =
+pub rest-of : (F : ℕ) (b : List ℕ) (o left : ℕ) (r : Chosen) (b′ : List ℕ) → lawful F b ≡ true → 1 ≤ o → o + left ≤ 4097 → left ≤ count F (freeIn b) → BlockTaken F b o left r b′
+    → Rest F b o left (r .block) b′
+unfolding framesFor
+rest-of F b o left r b′ lw pos room enough t =
     record {
-      lawful = rw be (step-lawful F b (w .lawful) (n - done) x st (o + done) (omega arith) (omega arith));
-      at-most = omega arith;
-      len = olen ∙ w .len;
-      enough = rw fr (omega (arith, took-count F (freeIn b) (n - done) x (st .took), w .enough));
-      few = omega (arith, w .few, ze, pow-pos (x .order));
-      blocks-are = omega (arith, w .blocks-are, ap length all);
-      frames-are = w .frames-are ∙ ap (λ (r : List Block). take done out ++ framesOf r) all
-          ∙ ap (λ (r : List ℕ). take done out ++ r) (frames-cons x rest)
-          ∙ sym (append-assoc (take done out) (own (x .order) (x .start .0)) (framesOf rest))
-          ∙ ap (λ (r : List ℕ). r ++ framesOf rest) (sym (noted out done (x .order) z (x .start .0) out′ ze (omega (arith, w .len)) olen cu));
-      owners-are = w .owners-are ∙ ap (λ (r : List Block). give (ownersOf b) (o + done) (framesOf r)) all
-          ∙ ap (give (ownersOf b) (o + done)) (frames-cons x rest)
-          ∙ give-append (ownersOf b) (o + done) (own (x .order) (x .start .0)) (framesOf rest)
-          ∙ ap (λ (q : ℕ → ℕ). give q (o + done + length (own (x .order) (x .start .0))) (framesOf rest))
-          (give-own (x .order) (x .start .0) (o + done) (ownersOf b) ∙ sym ow)
-          ∙ ap (λ (m : ℕ). give (ownersOf b′) m (framesOf rest)) counted;
-      cap = cap;
-      searched = rw fr (known-after F (freeIn b) (n - done) known next x (omega arith) (w .cap) (step-order F b (w .lawful) (n - done) x st) (w .searched) (st .is) ne);
+      small = chosen-small F b lw left x (t .chosen);
+      fits = chosen-fits F b lw left x (t .chosen);
+      inside = chosen-inside F b lw left x (t .chosen);
+      lawful = then-lawful F b lw left x (t .chosen) o pos room b′ be;
+      enough = rw free (omega (arith, took-count F (freeIn b) left x (took F (freeIn b) left x (t .chosen))));
+      blocks = all;
+      given = ap (λ (l : List Block). give (ownersOf b) o (framesOf l)) all
+          ∙ ap (give (ownersOf b) o) (frames-cons x _)
+          ∙ give-append (ownersOf b) o (own x) rest
+          ∙ ap (λ (m : ℕ). give (give (ownersOf b) o (own x)) (o + m) rest) (length-own x)
+          ∙ ap (λ (q : ℕ → ℕ). give q (o + 2 ^ (x .order)) rest) (give-own b x o ∙ sym (then-owners F b lw left x (t .chosen) o pos room b′ be));
     }
   where
-    rest : List Block
-    rest = blocksFor F (freeIn b′) (n - (done + z))
+    x : Block
+    x = r .block
 
-    fits : 2 ^ (x .order) ≤ n - done
-    fits = st .took .fits
+    be : b′ ≡ frameWords F (handedTo b x o)
+    be = t .words ∙ ap (frameWords F) (give-one b x o)
 
-    fr : freeIn b′ ≡ without (freeIn b) (x .order) (x .start .0)
-    fr = ap freeIn be ∙ step-free F b (w .lawful) (n - done) x st (o + done) (omega arith) (omega arith)
+    free : freeIn b′ ≡ without (freeIn b) (x .order) (x .start .0)
+    free = then-free F b lw left x (t .chosen) o pos room b′ be
 
-    ow : ownersOf b′ ≡ handed (ownersOf b) (x .order) (x .start .0) (o + done)
-    ow = ap ownersOf be ∙ step-owners F b (w .lawful) (n - done) x st (o + done) (omega arith) (omega arith)
+    all : blocksFor F (freeIn b) left ≡ x ∷ blocksFor F (freeIn b′) (left - 2 ^ (x .order))
+    all = rw free (chosen-all F b lw left x (t .chosen))
 
-    all : blocksFor F (freeIn b) (n - done) ≡ x ∷ rest
-    all =
-        let e : n - done - 2 ^ (x .order) ≡ n - (done + z) = omega arith in
-        step-all F b (w .lawful) (n - done) x st ∙ ap {B = List Block} (λ r. x ∷ r)
-        (ap (λ (m : ℕ). blocksFor F (without (freeIn b) (x .order) (x .start .0)) m) e ∙ ap (λ (p : ℕ → Bool). blocksFor F p (n - (done + z))) (sym fr))
+    rest : List ℕ
+    rest = framesOf (blocksFor F (freeIn b′) (left - 2 ^ (x .order)))
 
-    counted : o + done + length (own (x .order) (x .start .0)) ≡ o + (done + z)
-    counted = omega (arith, length-own (x .order) (x .start .0))
+-- the frames noted in a list
 
-pub going-end : (F : ℕ) (b₀ : List ℕ) (o n : ℕ) (b out : List ℕ) (done blocks : ℕ) (known : Bound) → Going F b₀ o n b out done blocks known → n ≤ done → Taken F b₀ o n blocks b out
-unfolding blockCount framesFor blocksFor takeBlocks framesOf give
-going-end F b₀ o n b out done blocks known w h =
-    let z : n - done ≡ 0 = omega (arith, w .at-most) in
-    let l = lawful-is F b (w .lawful) in
+-- the first `done` places hold the first frames of fs
+pub record Noted (fs : List ℕ) (done : ℕ) (out : List ℕ) : Type 0 where
+  pub each : (t : ℕ) → t < done → getD out t 0 ≡ getD fs t 0
+
+pub noted-none : (fs out : List ℕ) → Noted fs 0 out
+noted-none fs out = record { each = λ t h. absurd (omega arith) }
+
+pub noted-more : (fs : List ℕ) (d n z s : ℕ) (out out′ : List ℕ) → z ≡ n → ((t : ℕ) → t < n → getD fs (d + t) 0 ≡ s + t) → CountedUp out d (d + z) s out′ → Noted fs d out → Noted fs (d + z) out′
+noted-more fs d n z s out out′ ze here cu noted =
     record {
-      blocks = sym (w .blocks-are ∙ rw z (omega arith));
-      frames = sym (w .frames-are ∙ rw z (append-nil (take done out)) ∙ take-all done out (omega (arith, w .len)));
-      words = lawful-table F b l ∙ ap (frameWords F) (sym (w .owners-are ∙ rw z refl));
+      each = λ t h. by-dec (decLt t d)
+          (λ lt. cu .below t lt ∙ noted .each t lt)
+          (λ ge. let e : d + (t - d) ≡ t = omega arith in cu .inside t (omega arith) h ∙ sym (rw e at (here (t - d) (omega arith))));
     }
+
+pub noted-all : (fs : List ℕ) (n done : ℕ) (out : List ℕ) → length fs ≡ n → length out ≡ n → n ≤ done → Noted fs done out → out ≡ fs
+noted-all fs n done out lf lo h noted = ext-getD 0 out fs (lo ∙ sym lf) (λ t lt. noted .each t (omega arith))

@@ -156,14 +156,15 @@ took-count F free left b w =
 
 -- all the blocks of a request
 
-own : Block → List ℕ
+-- the frames of one block
+unfoldable pub own : Block → List ℕ
 own b = tabFrom (2 ^ (b .order)) (b .start .0) (λ f. f)
 
-length-own : (b : Block) → length (own b) ≡ 2 ^ (b .order)
+pub length-own : (b : Block) → length (own b) ≡ 2 ^ (b .order)
 unfolding own
 length-own b = length-tabFrom (2 ^ (b .order)) (b .start .0) (λ f. f)
 
-frames-cons : (b : Block) (bs : List Block) → framesOf (b ∷ bs) ≡ own b ++ framesOf bs
+pub frames-cons : (b : Block) (bs : List Block) → framesOf (b ∷ bs) ≡ own b ++ framesOf bs
 unfolding framesOf own
 frames-cons b bs = refl
 

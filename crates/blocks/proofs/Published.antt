@@ -1,22 +1,29 @@
 -- What the frame pool promises to a layer above, beyond the contracts of its functions. A crate above imports from the pool this module and the definitions that promises name, and nothing else.
-use mathlib.Core.Path.{_≡_, refl, sym}
+use mathlib.Core.Path.{_≡_, refl, ap, _∙_, sym}
 use mathlib.Core.Bool.{Bool, true, false}
-use mathlib.Core.List.{List}
+use mathlib.Core.List.{List, [], _∷_}
 use mathlib.Core.Option.{Option, some}
-use Prim.Native.Nat.{ℕ, _+_, _<_, _≤_}
+use Prim.Native.Nat.{ℕ, _+_, _-_, _^_, _<_, _≤_, zero-le}
+use native.Mathlib.Nat.{add-zero, zero-add}
 use native.Mathlib.Decide.{decLt, decLe}
 use native.Mathlib.Omega.{arith}
 use lib.ListN.{length, getD}
+use lib.Pow.{pow-pos}
 use Rattle.words.specs.Counts.{count}
 use Rattle.words.specs.Searches.{anyFrom}
 use Rattle.words.proofs.Cases.{by-dec}
 use Rattle.blocks.specs.declared.Block.{Block}
+use Rattle.blocks.specs.declared.Bound.{Bound}
+use Rattle.blocks.specs.declared.Chosen.{Chosen}
 use Rattle.blocks.specs.FrameWords.{isPoolSize, isOwner, ownerOf, ownersOf, freeOf, freeIn, lawful, frameWords}
-use Rattle.blocks.specs.Choice.{takeBlock, blocksFor, framesFor}
+use Rattle.blocks.specs.Choice.{takeBlock, takeBlocks, framesOf, blocksFor, framesFor, blockCount}
 use Rattle.blocks.specs.Owners.{give, inSpan, freed, holds}
+use Rattle.blocks.specs.Taking.{Searched, nothingKnown, BlockTaken}
 use Rattle.blocks.proofs.WordLaws.{owners-small, lawful-is, lawful-yes, table-lawful}
 use Rattle.blocks.proofs.WordLaws
-use Rattle.blocks.proofs.ChoiceLaws.{Good, takes-good, takes-all, Taking, taking, one, end, takeBlocks-same}
+use Rattle.blocks.proofs.ChoiceLaws.{Good, takes-good, takes-all, Taking, taking, one, end, frame-first, frame-rest, takeBlocks-same}
+use Rattle.blocks.proofs.SearchedLaws.{nothing-known}
+use Rattle.blocks.proofs.AllocateLaws.{Rest, rest-of}
 use Rattle.blocks.proofs.FreeLaws.{cleared-in, cleared-out, given-at, given-other, allocated-owners, freed-again, nobody-holds}
 
 -- frames that a request of n pages takes
@@ -157,3 +164,102 @@ free-allocated F b o n t enough pos room nobody =
     freed-again F b l o n enough room (λ g lo hi. by-dec (decLt g F)
     (λ h. nobody-holds b o n F nobody g h lo hi)
     (λ ge. let z = WordLaws.owners-high F b l g (omega arith) in omega arith))
+
+-- a request served block after block, by calls that each take one block
+
+-- n pages were asked for the owners from o on where the words were b₀. So many blocks are taken, which serve the first `done` pages; the words are b now, and the searches have shown `known`.
+-- The whole answer is what is taken so far, and the answer for the rest.
+pub record Going (F : ℕ) (b₀ : List ℕ) (o n : ℕ) (b : List ℕ) (done blocks : ℕ) (known : Bound) : Type 0 where
+  pub owners : (1 ≤ o) × (o + n ≤ 4097)
+  pub lawful : lawful F b ≡ true
+  pub at-most : done ≤ n
+  pub few : blocks ≤ done
+  pub enough : n - done ≤ count F (freeIn b)
+  pub searched : Searched F (freeIn b) known
+  pub blocks-are : blockCount F (freeIn b₀) n ≡ blocks + blockCount F (freeIn b) (n - done)
+  pub frames-are : (t : ℕ) → getD (framesFor F (freeIn b₀) n) (done + t) 0 ≡ getD (framesFor F (freeIn b) (n - done)) t 0
+  pub owners-are : give (ownersOf b₀) o (framesFor F (freeIn b₀) n) ≡ give (ownersOf b) (o + done) (framesFor F (freeIn b) (n - done))
+
+-- where the next block lies, and that its frames are those of the next pages; fs are the frames of all pages
+pub record Placed (F : ℕ) (fs : List ℕ) (n done : ℕ) (x : Block) : Type 0 where
+  pub small : x .order ≤ 10
+  pub fits : done + 2 ^ (x .order) ≤ n
+  pub inside : x .start .0 + 2 ^ (x .order) ≤ F
+  pub frames : (t : ℕ) → t < 2 ^ (x .order) → getD fs (done + t) 0 ≡ x .start .0 + t
+
+-- before the first block
+pub going-start : (F : ℕ) (b : List ℕ) (o n : ℕ) (known : Bound) → lawful F b ≡ true → n ≤ count F (freeIn b) → 1 ≤ o → o + n ≤ 4097 → known ≡ nothingKnown → Going F b o n b 0 0 known
+going-start F b o n known lw enough pos room e =
+    let z : n - 0 ≡ n = omega arith in
+    record {
+      owners = (pos, room);
+      lawful = lw;
+      at-most = zero-le;
+      few = zero-le;
+      enough = omega arith;
+      searched = rw e (nothing-known F (freeIn b));
+      blocks-are = rw z (omega arith);
+      frames-are = λ t. rw (z, zero-add t) refl;
+      owners-are = rw (z, add-zero o) refl;
+    }
+
+module _ (F : ℕ) (b₀ : List ℕ) (o n : ℕ) (b : List ℕ) (done blocks : ℕ) (known : Bound) (s : Going F b₀ o n b done blocks known) where
+  module _ (lt : done < n) (r : Chosen) (b′ : List ℕ) (t : BlockTaken F b (o + done) (n - done) r b′) where
+    rest : Rest F b (o + done) (n - done) (r .block) b′
+    rest = let w = s .owners in rest-of F b (o + done) (n - done) r b′ (s .lawful) (omega arith) (omega arith) (s .enough) t
+
+    rest-frames : framesFor F (freeIn b) (n - done) ≡ framesOf (r .block ∷ blocksFor F (freeIn b′) (n - done - 2 ^ (r .block .order)))
+    unfolding framesFor
+    rest-frames = ap framesOf (rest .blocks)
+
+    -- what can be said of the next block
+    pub next-placed : Placed F (framesFor F (freeIn b₀) n) n done (r .block)
+    next-placed =
+        record {
+          small = rest .small;
+          fits = omega (arith, rest .fits);
+          inside = rest .inside;
+          frames = λ u h. s .frames-are u ∙ ap (λ (l : List ℕ). getD l u 0) rest-frames ∙ frame-first (r .block) _ u h;
+        }
+
+    -- one block more; z is its size as the code has it
+    pub going-on : (z : ℕ) → z ≡ 2 ^ (r .block .order) → Going F b₀ o n b′ (done + z) (blocks + 1) (r .known)
+    unfolding blockCount framesFor
+    going-on z ze =
+        let x : Block = r .block in
+        let fits = rest .fits in
+        let some-frames : 0 < 2 ^ (x .order) = pow-pos (x .order) in
+        let left : n - done - 2 ^ (x .order) ≡ n - (done + z) = omega arith in
+        let on : o + done + 2 ^ (x .order) ≡ o + (done + z) = omega arith in
+        let few = s .few in
+        record {
+          owners = s .owners;
+          lawful = rest .lawful;
+          at-most = omega arith;
+          few = omega arith;
+          enough = rw (← left) (rest .enough);
+          searched = t .searched;
+          blocks-are = s .blocks-are ∙ ap (λ (l : List Block). blocks + length l) (rest .blocks) ∙ rw left (omega arith);
+          frames-are = λ u.
+              let at : done + z + u ≡ done + (2 ^ (x .order) + u) = omega arith in
+              let u-less : 2 ^ (x .order) + u - 2 ^ (x .order) ≡ u = omega arith in
+              rw at (s .frames-are (2 ^ (x .order) + u) ∙ ap (λ (l : List ℕ). getD l (2 ^ (x .order) + u) 0) rest-frames ∙ frame-rest x _ (2 ^ (x .order) + u) (omega arith) ∙ rw (u-less, left) refl);
+          owners-are = s .owners-are ∙ rest .given ∙ rw (left, on) refl;
+        }
+
+  -- no page is left
+  module _ (all : n ≤ done) where
+    none-left : n - done ≡ 0
+    none-left = omega (arith, all)
+
+    pub all-blocks : blocks ≡ blockCount F (freeIn b₀) n
+    unfolding blockCount blocksFor takeBlocks
+    all-blocks = sym (s .blocks-are ∙ rw none-left (omega arith))
+
+    pub all-words : b ≡ frameWords F (give (ownersOf b₀) o (framesFor F (freeIn b₀) n))
+    unfolding framesFor blocksFor takeBlocks framesOf give
+    all-words = own-table F b (s .lawful) ∙ ap (frameWords F) (sym (s .owners-are ∙ rw none-left refl))
+
+-- the frames of a block, from its start on
+pub block-frames : (x : Block) (t : ℕ) → t < 2 ^ (x .order) → getD (framesOf (x ∷ [])) t 0 ≡ x .start .0 + t
+block-frames x t h = frame-first x [] t h

@@ -20,7 +20,8 @@ use Rattle.blocks.specs.Blocks.{block, freeBlock}
 use Rattle.blocks.specs.FrameWords.{freeIn, lawful}
 use Rattle.blocks.specs.Choice.{lowest, serving, isServed, orderFor, cutAt, takeFrom, takeOrder, takeBlock, without}
 use Rattle.blocks.specs.Inner.Around.{startOf, around}
-use Rattle.blocks.specs.Inner.Passes.{orderWithin, orderAt, least, asBlock, Clear, Searched, scanFrom, boundAfter}
+use Rattle.blocks.specs.Taking.{Clear, Searched, nothingKnown}
+use Rattle.blocks.specs.Inner.Passes.{orderWithin, orderAt, least, asBlock, scanFrom, boundAfter}
 use Rattle.blocks.proofs.AroundLaws.{start-next, in-block, block-in, start-same, start-start, around-at, at-around, without-free}
 use Rattle.blocks.proofs.FreeBlockLaws.{BlockAt, free-block-at, at-free-block, in-block-at}
 use Rattle.blocks.proofs.WordLaws.{lawful-is, word-block, no-block}
@@ -264,13 +265,13 @@ above-of F free x known = known .above
 
 -- what the search ends with
 
-module _ (F : ℕ) (b : List ℕ) (lw : lawful F b ≡ true) (left : ℕ) (x : Bound) (L top t : ℕ) (o : orderWithin left ≡ some L) (cap : x .limit ≤ 10) (te : top ≡ least L (x .limit)) (known : Searched F (freeIn b) x) where
+module _ (F : ℕ) (b : List ℕ) (lw : lawful F b ≡ true) (left : ℕ) (x : Bound) (L top t : ℕ) (o : orderWithin left ≡ some L) (te : top ≡ least L (x .limit)) (known : Searched F (freeIn b) x) where
   pub chosen : (k f m : ℕ) → t < x .limit + 1 → k ≡ orderAt (x .limit) top t → None F (freeIn b) (x .limit) top t → Clear F (freeIn b) k f → f < F → getD b f 0 ≡ 16384 + k
       → m ≡ least k top → block m f ≡ asBlock (takeBlock F (freeIn b) left)
   chosen k f m ht ke n cl h e me =
       let is : lowest F (freeIn b) k ≡ some f = clear-found F (freeIn b) k f cl h (at-free-block F (freeIn b) k f (word-block F b (lawful-is F b lw) k f h e)) in
       let took : takeBlock F (freeIn b) left ≡ some (block (least (orderAt (x .limit) top t) top) f) =
-      first-order F (freeIn b) left (x .limit) top L cap (above-of F (freeIn b) x known) (within left L o) te t f (omega arith) n (rw (← ke) is)
+      first-order F (freeIn b) left (x .limit) top L (known .small) (above-of F (freeIn b) x known) (within left L o) te t f (omega arith) n (rw (← ke) is)
       in
       let mm : m ≡ least (orderAt (x .limit) top t) top = rw (← ke) me in
       rw mm (as-some _ _ took)
@@ -279,7 +280,7 @@ module _ (F : ℕ) (b : List ℕ) (lw : lawful F b ≡ true) (left : ℕ) (x : B
   skipped k f ke n cl h = none-more F (freeIn b) (x .limit) top t n (rw (← ke) (clear-none F (freeIn b) k f cl h))
 
   pub chosen-none : None F (freeIn b) (x .limit) top t → t ≡ x .limit + 1 → block 11 0 ≡ asBlock (takeBlock F (freeIn b) left)
-  chosen-none n e = as-none _ (no-order F (freeIn b) left (x .limit) top L cap (above-of F (freeIn b) x known) (within left L o) te (rw e at n))
+  chosen-none n e = as-none _ (no-order F (freeIn b) left (x .limit) top L (known .small) (above-of F (freeIn b) x known) (within left L o) te (rw e at n))
 
 -- the scan goes one block on
 pub passed : (F : ℕ) (b : List ℕ) → lawful F b ≡ true → (k f z : ℕ) → z ≡ 2 ^ k → Clear F (freeIn b) k f × (startOf k f ≡ f) → f < F → (getD b f 0 ≡ 16384 + k → ⊥)
@@ -289,8 +290,8 @@ passed F b lw k f z e (cl, st) h n = rw e (clear-more F (freeIn b) k f cl st (no
 -- what is known after a block was taken
 
 module _ (F : ℕ) (free : ℕ → Bool) where
-  pub nothing-known : Searched F free (record { limit = 10; from = record { 0 = 0 } })
-  nothing-known = record { above = λ k lo hi. absurd (omega arith); before = record { none-at = λ s h. absurd (omega arith) } }
+  pub nothing-known : Searched F free nothingKnown
+  nothing-known = record { small = omega arith; above = λ k lo hi. absurd (omega arith); before = record { none-at = λ s h. absurd (omega arith) } }
 
   cut-is : (i : ℕ) (x : Block) (o : Option ℕ) → cutAt i o ≡ some x → (x .order ≡ i) × (o ≡ some (x .start .0))
   unfolding cutAt
@@ -329,8 +330,9 @@ module _ (F : ℕ) (free : ℕ → Bool) where
           (none-up, rw ji at (p .1 .2))
 
   -- what is known stays known when frames are taken
-  stays : (i s : ℕ) (x : Bound) → x .limit ≤ 10 → Searched F free x → Searched F (without free i s) x
-  stays i s x cap known = record {
+  stays : (i s : ℕ) (x : Bound) → Searched F free x → Searched F (without free i s) x
+  stays i s x known = record {
+    small = known .small;
     above = λ k lo hi. not-there (lowest F (without free i s) k) (λ t et.
         let q = larger k t hi (free-of k t (lowest-at F (without free i s) k t et .maximal .whole)) in
         let kq = q .1 in
@@ -347,7 +349,7 @@ module _ (F : ℕ) (free : ℕ → Bool) where
 
       gone : (t : ℕ) → t < x .from .0 → BlockAt F (without free i s) (x .limit) t → freeBlock F (without free i s) (x .limit) t ≡ false
       gone t ht b =
-          let q = larger (x .limit) t cap (free-of (x .limit) t (b .maximal .whole)) in
+          let q = larger (x .limit) t (known .small) (free-of (x .limit) t (b .maximal .whole)) in
           let lq = q .1 in
           let r = at-lowest F free (q .0) (startOf (q .0) t) (q .3) in
           by-dec (decLt (x .limit) (q .0))
@@ -358,21 +360,21 @@ module _ (F : ℕ) (free : ℕ → Bool) where
           let here : BlockAt F free (x .limit) t = rw (st, same) at (q .3) in
           true-false (freeBlock F free (x .limit) t) (at-free-block F free (x .limit) t here) (known .before .none-at t ht))
 
-  pub known-after : (left : ℕ) (x y : Bound) (b : Block) → 1 ≤ left → x .limit ≤ 10 → b .order ≤ 10 → Searched F free x → takeBlock F free left ≡ some b
+  pub known-after : (left : ℕ) (x y : Bound) (b : Block) → 1 ≤ left → b .order ≤ 10 → Searched F free x → takeBlock F free left ≡ some b
       → y ≡ boundAfter x b left → Searched F (without free (b .order) (b .start .0)) y
   unfolding boundAfter NoneAbove
-  known-after left x y b pos cap hb known e ye =
+  known-after left x y b pos hb known e ye =
       let q = order-some left pos in
       let w : ℕ = q .0 in
       by-test (ltb (b .order) w)
       (λ t.
       let yb : y ≡ record { limit = b .order; from = b .start } = rw (q .1, boundAfter, t) at ye in
       let l = lower left w b (within left w (q .1)) e (ltb-true _ _ t) in
-      rw yb (stays (b .order) (b .start .0) (record { limit = b .order; from = b .start }) hb
-      (record { above = l .0; before = found-clear F free (b .order) (b .start .0) (l .1) })))
+      rw yb (stays (b .order) (b .start .0) (record { limit = b .order; from = b .start })
+      (record { small = hb; above = l .0; before = found-clear F free (b .order) (b .start .0) (l .1) })))
       (λ t.
       let yx : y ≡ x = rw (q .1, boundAfter, t) at ye in
-      rw yx (stays (b .order) (b .start .0) x cap known))
+      rw yx (stays (b .order) (b .start .0) x known))
 
 -- the bound by cases, as the code decides it
 
@@ -383,10 +385,3 @@ bound-same x b left w e h = rw (e, boundAfter, le-ltb _ _ h)
 pub bound-down : (x : Bound) (b : Block) (left w : ℕ) → orderWithin left ≡ some w → b .order < w → record { limit = b .order; from = b .start } ≡ boundAfter x b left
 unfolding boundAfter
 bound-down x b left w e h = rw (e, boundAfter, lt-ltb _ _ h)
-
-pub bound-small : (x y : Bound) (b : Block) (left : ℕ) → x .limit ≤ 10 → b .order ≤ 10 → 1 ≤ left → y ≡ boundAfter x b left → y .limit ≤ 10
-bound-small x y b left cap hb pos ye =
-    let q = order-some left pos in
-    by-dec (decLt (b .order) (q .0))
-    (λ lt. let z = ap (λ (u : Bound). u .limit) (ye ∙ sym (bound-down x b left (q .0) (q .1) lt)) in omega arith)
-    (λ ge. let z = ap (λ (u : Bound). u .limit) (ye ∙ sym (bound-same x b left (q .0) (q .1) (omega arith))) in omega arith)

@@ -15,6 +15,12 @@ pub struct Bound {
     pub from: Frame,
 }
 
+// The block chosen, and what is known for the next search.
+pub struct Chosen {
+    pub block: Block,
+    pub known: Bound,
+}
+
 // The calls on the pool, with their arguments; allocate takes as many frames as the list that it is lent has places.
 pub enum PoolCall {
     SetUp(u32),

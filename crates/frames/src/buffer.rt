@@ -10,6 +10,7 @@ ghost use Rattle.words.specs.Writes.{Filled, CountedUp};
 ghost use Rattle.blocks.specs.FrameWords.{ownerOf, freeIn};
 ghost use Rattle.blocks.specs.Inner.Around.{startOf};
 ghost use Rattle.blocks.specs.Inner.Passes.{HeldTo};
+use blocks::Frame;
 
 // The owner that a frame word names, 0 for a free frame.
 pub fn owner_of(w: u32) -> u32
@@ -76,11 +77,12 @@ pub fn size_of(k: u32) -> u32
 }
 
 // The first frame of the block of order k that holds frame f.
-pub fn start_of(f: u32, k: u32) -> u32
+pub fn start_of(f: Frame, k: u32) -> Frame
     requires { ⌜ k ≤ 10 ⌝ }
-    ensures { λ r. ⌜ r ≡ startOf k f ⌝ }
+    ensures { λ r. ⌜ r .0 ≡ startOf k (f .0) ⌝ }
 {
-    (f >> k) << k
+    let g = f.0;
+    Frame((g >> k) << k)
 }
 
 // Whether the frames from `from` up to `end` are free.

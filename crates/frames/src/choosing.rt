@@ -1,12 +1,12 @@
 // Choosing the block that a request takes.
 ghost use mathlib.Core.Path.{_≡_};
-ghost use mathlib.Core.Bool.{Bool, true, false};
+ghost use mathlib.Core.Bool.{true};
 ghost use mathlib.Core.Option.{some};
-ghost use Prim.Native.Nat.{ℕ, _+_, _≤_, _<_};
-ghost use lib.ListN.{length};
+ghost use Prim.Native.Nat.{_≤_};
 ghost use Rattle.blocks.specs.FrameWords.{freeIn, lawful};
 ghost use Rattle.blocks.specs.Choice.{takeBlock};
-ghost use Rattle.blocks.specs.Inner.Passes.{orderWithin, orderAt, least, asBlock, Searched, scanFrom, boundAfter};
+ghost use Rattle.blocks.specs.Taking.{Searched, nothingKnown};
+ghost use Rattle.blocks.specs.Inner.Passes.{orderWithin, orderAt, least, asBlock, scanFrom, boundAfter};
 use crate::buffer::size_of;
 use crate::buffer::start_of;
 use blocks::Block;
@@ -54,21 +54,19 @@ fn least(a: u32, b: u32) -> u32
 }
 
 // The frame from which the scan for order k starts.
-fn scan_from(known: Bound, k: u32) -> u32
-    ensures { λ r. ⌜ r ≡ scanFrom known k ⌝ }
+fn scan_from(known: Bound, k: u32) -> Frame
+    ensures { λ r. ⌜ r .0 ≡ scanFrom known k ⌝ }
 {
     if k == known.limit {
-        let from = known.from;
-        return from.0;
+        return known.from;
     }
-    0
+    Frame(0)
 }
 
 // The block that is taken for `left` pages, where earlier searches have shown `known`; order 11 says that there is none.
 pub fn choose(frames: &[u32], pool: u32, left: u32, known: Bound) -> Block
     requires { ⌜ lawful pool (now frames) ≡ true ⌝ }
     requires { ⌜ 1 ≤ left ⌝ }
-    requires { ⌜ known .limit ≤ 10 ⌝ }
     requires { ⌜ Searched pool (freeIn (now frames)) known ⌝ }
     ensures { λ r. ⌜ r ≡ asBlock (takeBlock pool (freeIn (now (frames .entry))) left) ⌝ }
 {
@@ -81,7 +79,8 @@ pub fn choose(frames: &[u32], pool: u32, left: u32, known: Bound) -> Block
             let from = scan_from(known, k);
             let size = size_of(k);
             // A block of order k starts only at a multiple of its size.
-            let mut f = start_of(from, k);
+            let first = start_of(from, k);
+            let mut f = first.0;
             while f < pool {
                 if frames[f as usize] == 16384 + k {
                     let order = least(k, top);
@@ -99,6 +98,16 @@ pub fn choose(frames: &[u32], pool: u32, left: u32, known: Bound) -> Block
         };
     };
     chosen
+}
+
+// What is known before the first search.
+pub fn nothing_known() -> Bound
+    ensures { λ r. ⌜ r ≡ nothingKnown ⌝ }
+{
+    Bound {
+        limit: 10,
+        from: Frame(0),
+    }
 }
 
 // What is known once block `b` was taken for `left` pages.

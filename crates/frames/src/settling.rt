@@ -21,7 +21,8 @@ pub fn can_start(f: Frame, k: u32) -> bool
     requires { ⌜ k ≤ 10 ⌝ }
     ensures { λ r. ⌜ r ≡ eqb (startOf k (f .0)) (f .0) ⌝ }
 {
-    start_of(f.0, k) == f.0
+    let s = start_of(f, k);
+    s.0 == f.0
 }
 
 // Whether the wholly free block of order k at f is half of a wholly free one.

@@ -1,18 +1,21 @@
 // Taking frames, block after block.
 ghost use mathlib.Core.Path.{_≡_};
-ghost use mathlib.Core.Bool.{Bool, true, false};
-ghost use Prim.Native.Nat.{ℕ, _+_, _^_, _≤_, _<_};
+ghost use mathlib.Core.Bool.{true};
+ghost use Prim.Native.Nat.{_+_, _^_, _≤_};
 ghost use lib.ListN.{length};
 ghost use Rattle.words.specs.Counts.{count};
 ghost use Rattle.blocks.specs.FrameWords.{ownersOf, freeIn, lawful, frameWords};
+ghost use Rattle.blocks.specs.Taking.{Searched, BlockTaken};
 ghost use Rattle.blocks.specs.Calls.{Taken};
 ghost use Rattle.blocks.specs.Inner.Passes.{Halved, Begins, handed};
 use crate::buffer::count_up;
 use crate::buffer::size_of;
 use crate::choosing::bound_after;
 use crate::choosing::choose;
+use crate::choosing::nothing_known;
 use blocks::Block;
 use blocks::Bound;
+use blocks::Chosen;
 use blocks::Frame;
 
 // Marks the upper halves that are left of the block of order `top` at s when its part of order `order` is taken.
@@ -49,6 +52,24 @@ fn take_at(frames: &mut [u32], pool: u32, b: Block, owner: u32)
     halve(frames, start, order, top);
 }
 
+// Takes the block of the owners from `owner` on while `left` pages are left, where earlier searches have shown `known`.
+pub fn take_block(frames: &mut [u32], pool: u32, owner: u32, left: u32, known: Bound) -> Chosen
+    requires { ⌜ lawful pool (now frames) ≡ true ⌝ }
+    requires { ⌜ 1 ≤ left ⌝ }
+    requires { ⌜ left ≤ count pool (freeIn (now frames)) ⌝ }
+    requires { ⌜ 1 ≤ owner ⌝ }
+    requires { ⌜ owner + left ≤ 4097 ⌝ }
+    requires { ⌜ Searched pool (freeIn (now frames)) known ⌝ }
+    ensures { λ r. ⌜ BlockTaken pool (now (frames .entry)) owner left r (now (frames .exit)) ⌝ }
+{
+    let b = choose(frames, pool, left, known);
+    take_at(frames, pool, b, owner);
+    Chosen {
+        block: b,
+        known: bound_after(known, b, left),
+    }
+}
+
 // Takes out.len() frames for the owners from `owner` on, in page order, and answers how many blocks that took.
 pub fn take_frames(frames: &mut [u32], pool: u32, owner: u32, out: &mut [u32]) -> u32
     requires { ⌜ lawful pool (now frames) ≡ true ⌝ }
@@ -60,18 +81,14 @@ pub fn take_frames(frames: &mut [u32], pool: u32, owner: u32, out: &mut [u32]) -
     let n = out.len();
     let mut done: usize = 0;
     let mut blocks: u32 = 0;
-    let mut known = Bound {
-        limit: 10,
-        from: Frame(0),
-    };
+    let mut known = nothing_known();
     while done < n {
-        let left = (n - done) as u32;
-        let b = choose(frames, pool, left, known);
+        let taken = take_block(frames, pool, owner + done as u32, (n - done) as u32, known);
+        let b = taken.block;
         let start = b.start;
         let size = size_of(b.order) as usize;
-        known = bound_after(known, b, left);
-        take_at(frames, pool, b, owner + (done as u32));
         count_up(out, done, done + size, start.0);
+        known = taken.known;
         done += size;
         blocks += 1;
     }

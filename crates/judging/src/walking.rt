@@ -125,7 +125,7 @@ fn walk_space(
         if !page_fits(frames, pool, opened, first + i, w) {
             return unsound();
         }
-        at = next_place(on, at, Page(i), n, v);
+        at = next_place(on, at, i, n, v);
         let along = over_fitting(frames, pool, first, part, Page(i + 1), w);
         n = goes_on(n, v, w) + along.mapped;
         m += one_if_mapped(w) + along.mapped;

@@ -14,14 +14,13 @@ use crate::page_words::rights_in;
 use runs::Page;
 use words::scans::all_zero;
 
-// Whether the entry at place `at` is that of the run of n pages that ends before page b, at word v.
-fn entry_is(ranges: &[u32], at: usize, b: Page, n: u32, v: u32) -> bool
+// Whether the entry at place `at` is that of the run of n pages up to `limit`, left out, whose last word is v.
+fn entry_is(ranges: &[u32], at: usize, limit: u32, n: u32, v: u32) -> bool
     requires { ⌜ length (now ranges) ≡ 512 ⌝ }
     requires { ⌜ at + 4 ≤ 512 ⌝ }
-    requires { ⌜ (n ≤ b .0) × (1 ≤ b .0) ⌝ }
-    ensures { λ r. ⌜ Decides r (part at 4 (now (ranges .entry)) ≡ entryOf (b .0) n v) ⌝ }
+    requires { ⌜ (n ≤ limit) × (1 ≤ limit) ⌝ }
+    ensures { λ r. ⌜ Decides r (part at 4 (now (ranges .entry)) ≡ entryOf limit n v) ⌝ }
 {
-    let limit = b.0;
     if ranges[at] != limit - n {
         return false;
     }
@@ -36,12 +35,12 @@ fn entry_is(ranges: &[u32], at: usize, b: Page, n: u32, v: u32) -> bool
     ranges[at + 3] == r
 }
 
-// Whether range bit and entry are right where the run of n pages ends before page b, unless page b goes on it.
-fn end_fits(ranges: &[u32], on: bool, at: usize, b: Page, n: u32, v: u32) -> bool
+// Whether range bit and entry are right where the run of n pages ends at `limit`, unless it goes on there.
+fn end_fits(ranges: &[u32], on: bool, at: usize, limit: u32, n: u32, v: u32) -> bool
     requires { ⌜ length (now ranges) ≡ 512 ⌝ }
-    requires { ⌜ at + length (ended on (b .0) n v) ≤ 512 ⌝ }
-    requires { ⌜ (n ≤ b .0) × (b .0 ≤ 1024) ⌝ }
-    ensures { λ r. ⌜ Decides r (EndFits (now (ranges .entry)) on at (b .0) n v) ⌝ }
+    requires { ⌜ at + length (ended on limit n v) ≤ 512 ⌝ }
+    requires { ⌜ (n ≤ limit) × (limit ≤ 1024) ⌝ }
+    ensures { λ r. ⌜ Decides r (EndFits (now (ranges .entry)) on at limit n v) ⌝ }
 {
     if on {
         return true;
@@ -51,7 +50,7 @@ fn end_fits(ranges: &[u32], on: bool, at: usize, b: Page, n: u32, v: u32) -> boo
         return !bit;
     }
     if bit {
-        return entry_is(ranges, at, b, n, v);
+        return entry_is(ranges, at, limit, n, v);
     }
     false
 }
@@ -77,16 +76,16 @@ pub fn step_fits(ranges: &[u32], on: bool, at: usize, b: Page, n: u32, v: u32, w
     requires { ⌜ (n ≤ b .0) × (b .0 ≤ 1024) ⌝ }
     ensures { λ r. ⌜ Decides r (EndFits (now (ranges .entry)) on at (b .0) n v × WordFits on v w) ⌝ }
 {
-    if !end_fits(ranges, on, at, b, n, v) {
+    if !end_fits(ranges, on, at, b.0, n, v) {
         return false;
     }
     word_fits(on, v, w)
 }
 
-// The place of the next entry.
-pub fn next_place(on: bool, at: usize, b: Page, n: u32, v: u32) -> usize
-    requires { ⌜ at + length (ended on (b .0) n v) ≤ 512 ⌝ }
-    ensures { λ r. ⌜ r ≡ at + length (ended on (b .0) n v) ⌝ }
+// The place of the next entry, after the run of n pages up to `limit`.
+pub fn next_place(on: bool, at: usize, limit: u32, n: u32, v: u32) -> usize
+    requires { ⌜ at + length (ended on limit n v) ≤ 512 ⌝ }
+    ensures { λ r. ⌜ r ≡ at + length (ended on limit n v) ⌝ }
 {
     if on {
         return at;
@@ -112,9 +111,9 @@ pub fn rest_fits(ranges: &[u32], at: usize, n: u32, v: u32) -> bool
     requires { ⌜ n ≤ 1024 ⌝ }
     ensures { λ r. ⌜ Decides r (EndFits (now (ranges .entry)) false at 1024 n v × (now (ranges .entry) ≡ zeroFrom (now (ranges .entry)) (at + length (ended false 1024 n v)))) ⌝ }
 {
-    if !end_fits(ranges, false, at, Page(1024), n, v) {
+    if !end_fits(ranges, false, at, 1024, n, v) {
         return false;
     }
-    let rest = next_place(false, at, Page(1024), n, v);
+    let rest = next_place(false, at, 1024, n, v);
     zeros_from(ranges, rest)
 }

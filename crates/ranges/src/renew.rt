@@ -30,45 +30,44 @@ fn mark(part: &mut [u32], a: Page, n: u32, bit: bool)
     }
 }
 
-// Writes the entry of the run of n pages that ends before page b, at word v.
-fn put(ranges: &mut [u32], at: usize, b: Page, n: u32, v: u32)
+// Writes the entry of the run of n pages up to `limit`, left out, whose last word is v.
+fn put(ranges: &mut [u32], at: usize, limit: u32, n: u32, v: u32)
     requires { ⌜ length (now ranges) ≡ 512 ⌝ }
     requires { ⌜ at + 4 ≤ 512 ⌝ }
-    requires { ⌜ (n ≤ b .0) × (1 ≤ b .0) ⌝ }
-    ensures { λ _. ⌜ now (ranges .exit) ≡ sets (now (ranges .entry)) at (entryOf (b .0) n v) ⌝ }
+    requires { ⌜ (n ≤ limit) × (1 ≤ limit) ⌝ }
+    ensures { λ _. ⌜ now (ranges .exit) ≡ sets (now (ranges .entry)) at (entryOf limit n v) ⌝ }
 {
-    let limit = b.0;
     ranges[at] = limit - n;
     ranges[at + 1] = limit;
     ranges[at + 2] = offset(frame_in(v), Page(limit - 1));
     ranges[at + 3] = rights_in(v);
 }
 
-// Closes the run of n pages before page b, unless page b goes on it, and answers the place of the next entry.
+// Closes the run of n pages up to `limit`, unless it goes on there, and answers the place of the next entry.
 fn end_run(
     part: &mut [u32],
     ranges: &mut [u32],
     on: bool,
     at: usize,
-    b: Page,
+    limit: u32,
     n: u32,
     v: u32,
 ) -> usize
     requires { ⌜ length (now part) ≡ 1024 ⌝ }
     requires { ⌜ length (now ranges) ≡ 512 ⌝ }
-    requires { ⌜ at + length (ended on (b .0) n v) ≤ 512 ⌝ }
-    requires { ⌜ (n ≤ b .0) × (b .0 ≤ 1024) ⌝ }
-    ensures { λ r. ⌜ EndedRun (now (part .entry)) (now (ranges .entry)) on at (b .0) n v r (now (part .exit)) (now (ranges .exit)) ⌝ }
+    requires { ⌜ at + length (ended on limit n v) ≤ 512 ⌝ }
+    requires { ⌜ (n ≤ limit) × (limit ≤ 1024) ⌝ }
+    ensures { λ r. ⌜ EndedRun (now (part .entry)) (now (ranges .entry)) on at limit n v r (now (part .exit)) (now (ranges .exit)) ⌝ }
 {
     if on {
         return at;
     }
     if n < 8 {
-        mark(part, Page(b.0 - n), n, false);
+        mark(part, Page(limit - n), n, false);
         return at;
     }
-    mark(part, Page(b.0 - n), n, true);
-    put(ranges, at, b, n, v);
+    mark(part, Page(limit - n), n, true);
+    put(ranges, at, limit, n, v);
     at + 4
 }
 
@@ -98,13 +97,13 @@ pub fn renew(part: &mut [u32], ranges: &mut [u32])
     while i < 1024 {
         let w = part[i as usize];
         let on = joined(v, w);
-        at = end_run(part, ranges, on, at, Page(i), n, v);
+        at = end_run(part, ranges, on, at, i, n, v);
         part[i as usize] = bit_word(range_bit(w), w);
         let along = over(part, Page(i + 1), w);
         n = goes_on(n, v, w) + along.mapped;
         v = along.last;
         i += 1 + along.pages;
     }
-    at = end_run(part, ranges, false, at, Page(1024), n, v);
+    at = end_run(part, ranges, false, at, 1024, n, v);
     zero_from(ranges, at);
 }

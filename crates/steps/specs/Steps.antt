@@ -1,19 +1,19 @@
 -- What the steps that alter pages promise, said of one space: ws are its page words, ws′ and rs′ the page words and range words left.
 use mathlib.Core.Path.{_≡_}
 use mathlib.Core.List.{List}
-use Prim.Native.Nat.{ℕ, _≤_, _<_}
-use lib.ListN.{length, getD}
+use Prim.Native.Nat.{ℕ}
+use Rattle.blocks.specs.FrameWords.{ownersOf, freeIn, frameWords}
+use Rattle.blocks.specs.Choice.{framesFor, blockCount}
+use Rattle.blocks.specs.Owners.{give}
 use Rattle.runs.specs.Walk.{withBits, rangeWords}
 use Rattle.layout.specs.Changes.{mapWords, unmapWords, mappedIn, protectWords, differing}
 
--- every word is a frame number
-pub record FrameNumbers (fs : List ℕ) : Type 0 where
-  pub each : (t : ℕ) → t < length fs → getD fs t 0 ≤ 4095
-
--- the pages from `first` on mapped to the frames fs, in page order
-pub record MapStep (ws : List ℕ) (first rights : ℕ) (fs ws′ rs′ : List ℕ) : Type 0 where
-  pub pages : ws′ ≡ withBits (mapWords ws first (length fs) rights fs)
-  pub ranges : rs′ ≡ rangeWords (mapWords ws first (length fs) rights fs)
+-- n pages from `first` on mapped to the frames that the map rule takes, where the frame words are b and the pages' owners count up from o; b′ are the frame words left
+pub record MapStep (F : ℕ) (b ws : List ℕ) (o first n rights r : ℕ) (b′ ws′ rs′ : List ℕ) : Type 0 where
+  pub value : r ≡ blockCount F (freeIn b) n
+  pub frames : b′ ≡ frameWords F (give (ownersOf b) o (framesFor F (freeIn b) n))
+  pub pages : ws′ ≡ withBits (mapWords ws first n rights (framesFor F (freeIn b) n))
+  pub ranges : rs′ ≡ rangeWords (mapWords ws first n rights (framesFor F (freeIn b) n))
 
 -- n pages from `first` on unmapped
 pub record UnmapStep (ws : List ℕ) (first n r : ℕ) (ws′ rs′ : List ℕ) : Type 0 where

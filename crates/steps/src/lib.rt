@@ -1,136 +1,104 @@
-// The steps that alter pages. Each is lent one space's 1,024 page words and 512 range words, changes the words of a span, then makes range bits and range words anew.
+// The steps that alter pages. Each is lent the buffers of all spaces and lends on one space's 1,024 page words and 512 range words, where the words of a span change and range bits and range words are made anew.
+mod mapping;
+mod protecting;
+mod unmapping;
+
 ghost use mathlib.Core.Path.{_≡_};
-ghost use mathlib.Core.Bool.{false, not};
+ghost use mathlib.Core.Bool.{true};
 ghost use Prim.Native.Nat.{_+_, _≤_};
-ghost use lib.Dec.{eqb};
 ghost use lib.ListN.{length};
-ghost use Rattle.words.specs.Counts.{one-if};
-ghost use Rattle.runs.specs.PageWords.{pageWord, mapped, rightsIn, frameIn};
-ghost use Rattle.layout.specs.Changes.{mapWords, unmapWords, mappedIn, protectWords, differing};
-ghost use Rattle.steps.specs.Steps.{FrameNumbers, MapStep, UnmapStep, ProtectStep};
-use blocks::Frame;
-use ranges::page_words::frame_in;
-use ranges::page_words::one_if_mapped;
-use ranges::page_words::page_word;
-use ranges::page_words::rights_in;
-use ranges::renew::renew;
+ghost use Rattle.words.specs.Counts.{count};
+ghost use Rattle.blocks.specs.FrameWords.{lawful, ownersOf, freeIn, frameWords};
+ghost use Rattle.blocks.specs.Choice.{framesFor, blockCount};
+ghost use Rattle.blocks.specs.Owners.{give};
+ghost use Rattle.layout.specs.Tables.{spacePages, ownerAt};
+ghost use Rattle.layout.specs.Changes.{Rewritten, mapWords, unmapWords, mappedIn, protectWords, differing};
+use crate::mapping::map_space;
+use crate::protecting::protect_space;
+use crate::unmapping::unmap_space;
 use runs::Page;
 
-// Writes the words of the pages from the first on, one for each frame.
-fn write_frames(part: &mut [u32], first: Page, rights: u32, frames: &[u32])
-    requires { ⌜ length (now part) ≡ 1024 ⌝ }
-    requires { ⌜ first .0 + length (now frames) ≤ 1024 ⌝ }
-    requires { ⌜ rights ≤ 7 ⌝ }
-    requires { ⌜ FrameNumbers (now frames) ⌝ }
-    ensures { λ _. ⌜ now (part .exit) ≡ mapWords (now (part .entry)) (first .0) (length (now (frames .entry))) rights (now (frames .entry)) ⌝ }
-{
-    let start = first.0 as usize;
-    let mut k = 0;
-    while k < frames.len() {
-        let at = start + k;
-        part[at] = page_word(false, rights, Frame(frames[k]));
-        k += 1;
-    }
-}
-
-// Maps the pages from the first on to the frames, in page order.
-pub fn map_space(part: &mut [u32], ranges: &mut [u32], first: Page, rights: u32, frames: &[u32])
-    requires { ⌜ length (now part) ≡ 1024 ⌝ }
-    requires { ⌜ length (now ranges) ≡ 512 ⌝ }
-    requires { ⌜ first .0 + length (now frames) ≤ 1024 ⌝ }
-    requires { ⌜ rights ≤ 7 ⌝ }
-    requires { ⌜ FrameNumbers (now frames) ⌝ }
-    ensures { λ _. ⌜ MapStep (now (part .entry)) (first .0) rights (now (frames .entry)) (now (part .exit)) (now (ranges .exit)) ⌝ }
-{
-    write_frames(part, first, rights, frames);
-    renew(part, ranges);
-}
-
-// Clears the words of the span; how many pages were mapped.
-fn clear(part: &mut [u32], first: Page, count: u32) -> u32
-    requires { ⌜ length (now part) ≡ 1024 ⌝ }
-    requires { ⌜ first .0 + count ≤ 1024 ⌝ }
-    ensures { λ r. ⌜ r ≡ mappedIn (now (part .entry)) (first .0) count ⌝ }
-    ensures { λ _. ⌜ now (part .exit) ≡ unmapWords (now (part .entry)) (first .0) count ⌝ }
-{
-    let start = first.0;
-    let mut n: u32 = 0;
-    let mut k: u32 = 0;
-    while k < count {
-        let at = (start + k) as usize;
-        n += one_if_mapped(part[at]);
-        part[at] = 0;
-        k += 1;
-    }
-    n
-}
-
-// Unmaps the span; how many of its pages were mapped.
-pub fn unmap_space(part: &mut [u32], ranges: &mut [u32], first: Page, count: u32) -> u32
-    requires { ⌜ length (now part) ≡ 1024 ⌝ }
-    requires { ⌜ length (now ranges) ≡ 512 ⌝ }
-    requires { ⌜ first .0 + count ≤ 1024 ⌝ }
-    ensures { λ r. ⌜ UnmapStep (now (part .entry)) (first .0) count r (now (part .exit)) (now (ranges .exit)) ⌝ }
-{
-    let n = clear(part, first, count);
-    renew(part, ranges);
-    n
-}
-
-// 1 where the word has other rights, 0 where it has these.
-fn one_if_other(rights: u32, w: u32) -> u32
-    ensures { λ r. ⌜ r ≡ one-if (not (eqb (rightsIn w) rights)) ⌝ }
-{
-    if rights_in(w) == rights {
-        return 0;
-    }
-    1
-}
-
-// The word with these rights, its range bit clear.
-fn with_rights(rights: u32, w: u32) -> u32
-    requires { ⌜ rights ≤ 7 ⌝ }
-    ensures { λ r. ⌜ r ≡ pageWord false rights (frameIn w) ⌝ }
-{
-    page_word(false, rights, frame_in(w))
-}
-
-// Gives the words of the span these rights; how many had others.
-fn rewrite(part: &mut [u32], first: Page, count: u32, rights: u32) -> u32
-    requires { ⌜ length (now part) ≡ 1024 ⌝ }
-    requires { ⌜ first .0 + count ≤ 1024 ⌝ }
-    requires { ⌜ rights ≤ 7 ⌝ }
-    ensures { λ r. ⌜ r ≡ differing (now (part .entry)) (first .0) count rights ⌝ }
-    ensures { λ _. ⌜ now (part .exit) ≡ protectWords (now (part .entry)) (first .0) count rights ⌝ }
-{
-    let start = first.0;
-    let mut n: u32 = 0;
-    let mut k: u32 = 0;
-    while k < count {
-        let at = (start + k) as usize;
-        let w = part[at];
-        n += one_if_other(rights, w);
-        part[at] = with_rights(rights, w);
-        k += 1;
-    }
-    n
-}
-
-// Gives the span these rights; how many of its pages had others.
-pub fn protect_space(
-    part: &mut [u32],
+// Maps n pages from `first` on to frames that the map rule takes; how many blocks were taken.
+pub fn map_pages(
+    frames: &mut [u32],
+    pages: &mut [u32],
     ranges: &mut [u32],
+    pool: u32,
+    space: u32,
+    first: Page,
+    n: u32,
+    rights: u32,
+) -> u32
+    requires { ⌜ lawful pool (now frames) ≡ true ⌝ }
+    requires { ⌜ n ≤ count pool (freeIn (now frames)) ⌝ }
+    requires { ⌜ length (now pages) ≡ 4096 ⌝ }
+    requires { ⌜ length (now ranges) ≡ 2048 ⌝ }
+    requires { ⌜ space ≤ 3 ⌝ }
+    requires { ⌜ first .0 + n ≤ 1024 ⌝ }
+    requires { ⌜ rights ≤ 7 ⌝ }
+    ensures { λ r. ⌜ r ≡ blockCount pool (freeIn (now (frames .entry))) n ⌝ }
+    ensures { λ _. ⌜ now (frames .exit) ≡ frameWords pool (give (ownersOf (now (frames .entry))) (ownerAt space (first .0)) (framesFor pool (freeIn (now (frames .entry))) n)) ⌝ }
+    ensures { λ _. ⌜ Rewritten space (mapWords (spacePages (now (pages .entry)) space) (first .0) n rights (framesFor pool (freeIn (now (frames .entry))) n)) (now (pages .entry)) (now (ranges .entry)) (now (pages .exit)) (now (ranges .exit)) ⌝ }
+{
+    let a = 1024 * (space as usize);
+    let e = a + 1024;
+    let b = 512 * (space as usize);
+    let f = b + 512;
+    let owner = 1 + 1024 * space + first.0;
+    map_space(
+        frames,
+        &mut pages[a..e],
+        &mut ranges[b..f],
+        pool,
+        owner,
+        first,
+        n,
+        rights,
+    )
+}
+
+// Unmaps `count` pages from `first` on; how many of them were mapped.
+pub fn unmap_pages(
+    pages: &mut [u32],
+    ranges: &mut [u32],
+    space: u32,
+    first: Page,
+    count: u32,
+) -> u32
+    requires { ⌜ length (now pages) ≡ 4096 ⌝ }
+    requires { ⌜ length (now ranges) ≡ 2048 ⌝ }
+    requires { ⌜ space ≤ 3 ⌝ }
+    requires { ⌜ first .0 + count ≤ 1024 ⌝ }
+    ensures { λ r. ⌜ r ≡ mappedIn (spacePages (now (pages .entry)) space) (first .0) count ⌝ }
+    ensures { λ _. ⌜ Rewritten space (unmapWords (spacePages (now (pages .entry)) space) (first .0) count) (now (pages .entry)) (now (ranges .entry)) (now (pages .exit)) (now (ranges .exit)) ⌝ }
+{
+    let a = 1024 * (space as usize);
+    let e = a + 1024;
+    let b = 512 * (space as usize);
+    let f = b + 512;
+    unmap_space(&mut pages[a..e], &mut ranges[b..f], first, count)
+}
+
+// Gives `count` pages from `first` on the rights; how many of them had others.
+pub fn protect_pages(
+    pages: &mut [u32],
+    ranges: &mut [u32],
+    space: u32,
     first: Page,
     count: u32,
     rights: u32,
 ) -> u32
-    requires { ⌜ length (now part) ≡ 1024 ⌝ }
-    requires { ⌜ length (now ranges) ≡ 512 ⌝ }
+    requires { ⌜ length (now pages) ≡ 4096 ⌝ }
+    requires { ⌜ length (now ranges) ≡ 2048 ⌝ }
+    requires { ⌜ space ≤ 3 ⌝ }
     requires { ⌜ first .0 + count ≤ 1024 ⌝ }
     requires { ⌜ rights ≤ 7 ⌝ }
-    ensures { λ r. ⌜ ProtectStep (now (part .entry)) (first .0) count rights r (now (part .exit)) (now (ranges .exit)) ⌝ }
+    ensures { λ r. ⌜ r ≡ differing (spacePages (now (pages .entry)) space) (first .0) count rights ⌝ }
+    ensures { λ _. ⌜ Rewritten space (protectWords (spacePages (now (pages .entry)) space) (first .0) count rights) (now (pages .entry)) (now (ranges .entry)) (now (pages .exit)) (now (ranges .exit)) ⌝ }
 {
-    let n = rewrite(part, first, count, rights);
-    renew(part, ranges);
-    n
+    let a = 1024 * (space as usize);
+    let e = a + 1024;
+    let b = 512 * (space as usize);
+    let f = b + 512;
+    protect_space(&mut pages[a..e], &mut ranges[b..f], first, count, rights)
 }

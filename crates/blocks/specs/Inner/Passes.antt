@@ -10,9 +10,8 @@ use Rattle.words.specs.Counts.{one-if}
 use Rattle.words.specs.Searches.{anyFrom, largest}
 use Rattle.blocks.specs.declared.Block.{Block}
 use Rattle.blocks.specs.declared.Bound.{Bound}
-use Rattle.blocks.specs.Blocks.{block, inBlock, freeBlock}
-use Rattle.blocks.specs.FrameWords.{ownersOf, freeIn, ownedIn, frameWord}
-use Rattle.blocks.specs.Choice.{lowest}
+use Rattle.blocks.specs.Blocks.{block, inBlock}
+use Rattle.blocks.specs.FrameWords.{ownersOf, freeIn, heldIn, frameWord}
 use Rattle.blocks.specs.Owners.{cleared}
 use Rattle.blocks.specs.Inner.Around.{startOf, around}
 
@@ -60,15 +59,6 @@ least a b = elim (ltb a b) [ true ↦ a | false ↦ b ]
 unfoldable pub asBlock : Option Block → Block
 asBlock none = block 11 0
 asBlock (some b) = b
-
--- no free block of order k starts below f
-pub record Clear (F : ℕ) (free : ℕ → Bool) (k f : ℕ) : Type 0 where
-  pub none-at : (s : ℕ) → s < f → freeBlock F free k s ≡ false
-
--- what earlier searches have shown: no free block has an order above the limit, and none of that order starts below `from`
-pub record Searched (F : ℕ) (free : ℕ → Bool) (x : Bound) : Type 0 where
-  pub above : (k : ℕ) → x .limit < k → k ≤ 10 → lowest F free k ≡ none
-  pub before : Clear F free (x .limit) (x .from .0)
 
 -- where the scan for order k starts
 unfoldable pub scanFrom : Bound → ℕ → ℕ

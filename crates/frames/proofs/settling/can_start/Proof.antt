@@ -11,7 +11,7 @@ start-of-requires c κs = search needs
 
 -- src/settling.rt:19:1
 returns : tie.Need-returns
-returns c = ap (λ (x : ℕ). eqb x (c .before .before .args .f .0)) (c .before .start-of .ensures)
+returns c = ap (λ (x : ℕ). eqb x (c .before .before .before .args .f .0)) (c .before .before .start-of .ensures)
 
 pub can-start-spec : {M : Type 1} → statement M
 can-start-spec = tie.close (tie.spec start-of-requires returns)

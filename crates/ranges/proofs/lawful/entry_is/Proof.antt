@@ -54,7 +54,7 @@ shared-slice-read-if3 c = search needs
 
 returns-3 : tie.Need-returns-3
 unfolding entryOf
-returns-3 c = says-no _ refl (λ p. c .if3 .taken (entry-word _ _ _ _ _ 2 (omega arith) p ∙ sym (c .before .before .offset .ensures ∙ ap (λ (x : ℕ). wrapSub 32 x (c .before .before .before .before .before .before .before .before .before .args .b .0 - 1)) (c .before .before .before .frame-in .ensures))))
+returns-3 c = says-no _ refl (λ p. c .if3 .taken (entry-word _ _ _ _ _ 2 (omega arith) p ∙ sym (c .before .before .offset .ensures ∙ ap (λ (x : ℕ). wrapSub 32 x (c .before .before .before .before .before .before .before .before .before .args .limit - 1)) (c .before .before .before .frame-in .ensures))))
 
 rights-in-requires : tie.Need-rights-in-requires
 rights-in-requires c κs = search needs
@@ -69,7 +69,7 @@ shared-slice-read-result : tie.Need-shared-slice-read-result
 shared-slice-read-result c = search needs
 
 returns-4 : tie.Need-returns-4
-returns-4 c = last-word _ _ _ _ _ _ _ (omega arith) (c .before .before .before .before .before .before .before .before .if1 .left) (c .before .before .before .before .before .before .if2 .left) (c .before .before .if3 .left) (c .before .before .before .before .offset .ensures ∙ ap (λ (x : ℕ). wrapSub 32 x (c .before .before .before .before .before .before .before .before .before .before .before .args .b .0 - 1)) (c .before .before .before .before .before .frame-in .ensures)) (c .before .rights-in .ensures)
+returns-4 c = last-word _ _ _ _ _ _ _ (omega arith) (c .before .before .before .before .before .before .before .before .if1 .left) (c .before .before .before .before .before .before .if2 .left) (c .before .before .if3 .left) (c .before .before .before .before .offset .ensures ∙ ap (λ (x : ℕ). wrapSub 32 x (c .before .before .before .before .before .before .before .before .before .before .before .args .limit - 1)) (c .before .before .before .before .before .frame-in .ensures)) (c .before .rights-in .ensures)
 
 pub entry-is-spec : {M : Type 1} → statement M
 entry-is-spec =

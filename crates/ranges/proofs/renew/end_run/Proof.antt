@@ -4,10 +4,6 @@ use Rattle.runs.proofs.RenewLaws.{still-on, too-short, long-run}
 use borrow.Author.Needs.{needs}
 use Rattle.ranges.proofs.renew.end_run.Statement.{statement}
 use Rattle.ranges.proofs.renew.end_run.Tie as tie
-use Rattle.ranges.proofs.renew.end_run.Reads as reads
-use Rattle.ranges.proofs.renew.end_run.Lts as lts
-use Rattle.ranges.proofs.renew.mark.Reads as mark-reads
-use Rattle.ranges.proofs.renew.put.Reads as put-reads
 
 -- src/renew.rt:68:9
 returns : tie.Need-returns
@@ -27,7 +23,7 @@ same-length c = search needs
 
 -- src/renew.rt:72:9
 returns-2 : tie.Need-returns-2
-returns-2 c = too-short _ _ _ _ _ _ _ _ (c .before .before .before .before .before .before .if1 .left) (c .before .before .before .before .before .if2 .taken) (c .before .before .mark .ensures)
+returns-2 c = too-short _ _ _ _ _ _ _ _ (c .before .before .before .before .before .if1 .left) (c .before .before .before .before .if2 .taken) (c .before .before .mark .ensures)
 
 -- src/renew.rt:74:21
 sub-t17 : tie.Need-sub-t17
@@ -39,7 +35,7 @@ mark-requires-2 c κs = search needs
 
 -- src/renew.rt:75:5
 put-requires : tie.Need-put-requires
-put-requires c κs = (omega arith, (room-for _ _ _ _ _ (c .before .before .before .before .before .before .before .if1 .left) (omega arith) (c .before .before .before .before .before .before .before .before .before .before .pre .1 .1 .0), (omega arith, omega arith)))
+put-requires c κs = (omega arith, (room-for _ _ _ _ _ (c .before .before .before .before .before .before .if1 .left) (omega arith) (c .before .before .before .before .before .before .before .before .before .pre .1 .1 .0), (omega arith, omega arith)))
 
 -- src/renew.rt:76:5
 add-result : tie.Need-add-result
@@ -55,7 +51,7 @@ same-length-3 c = search needs
 
 -- src/renew.rt:52:1
 returns-3 : tie.Need-returns-3
-returns-3 c = long-run _ _ _ _ _ _ _ _ _ (c .before .before .before .before .before .before .before .before .before .before .if1 .left) (omega arith) (c .before .before .before .before .before .before .mark2 .ensures) (c .before .before .put .ensures)
+returns-3 c = long-run _ _ _ _ _ _ _ _ _ (c .before .before .before .before .before .before .before .before .before .if1 .left) (omega arith) (c .before .before .before .before .before .before .mark2 .ensures) (c .before .before .put .ensures)
 
 pub end-run-spec : {M : Type 1} → statement M
 end-run-spec =

@@ -38,8 +38,8 @@ frame-in-requires : tie.Need-frame-in-requires
 frame-in-requires c κs = search needs
 
 -- src/renew.rt:41:47
-sub-t13 : tie.Need-sub-t13
-sub-t13 c = search needs
+sub-t12 : tie.Need-sub-t12
+sub-t12 c = search needs
 
 -- src/renew.rt:41:22
 offset-requires : tie.Need-offset-requires
@@ -80,7 +80,7 @@ same-length c = search needs
 -- src/renew.rt:32:1
 returns : tie.Need-returns
 unfolding entryOf
-returns c = put-is (c .before .before .before .before .args .ranges .now) (c .before .before .before .before .args .at) (c .before .before .before .before .args .b .0 - c .before .before .before .before .args .n) (c .before .before .before .before .args .b .0) _ _ _ _ (c .before .offset .ensures ∙ ap (λ (x : ℕ). wrapSub 32 x (c .before .before .before .before .args .b .0 - 1)) (c .before .before .frame-in .ensures)) (c .rights-in .ensures)
+returns c = put-is (c .before .before .before .before .args .ranges .now) (c .before .before .before .before .args .at) (c .before .before .before .before .args .limit - c .before .before .before .before .args .n) (c .before .before .before .before .args .limit) _ _ _ _ (c .before .offset .ensures ∙ ap (λ (x : ℕ). wrapSub 32 x (c .before .before .before .before .args .limit - 1)) (c .before .before .frame-in .ensures)) (c .rights-in .ensures)
 
 pub put-spec : {M : Type 1} → statement M
 put-spec =
@@ -93,7 +93,7 @@ put-spec =
     mul-ranges-2
     slice-write-ranges-2
     frame-in-requires
-    sub-t13
+    sub-t12
     offset-requires
     add-ranges-2
     mul-ranges-3
