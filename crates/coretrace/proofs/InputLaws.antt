@@ -1,74 +1,14 @@
--- The bytes that wait: the record that they begin with, and what reading on keeps of them.
-use mathlib.Core.Path.{_≡_, refl, ap, sym, subst, _∙_}
-use mathlib.Core.Bool.{Bool, true, false, cond}
+-- What reading on keeps of the bytes that wait.
+use mathlib.Core.Path.{_≡_, ap, sym, subst, _∙_}
 use mathlib.Core.List.{List}
-use Prim.Native.Nat.{ℕ, _+_, _-_, _*_, _≤_, _<_}
+use Prim.Native.Nat.{ℕ, _+_, _-_, _≤_, _<_}
 use native.Mathlib.Nat.{zero-add, add-comm}
 use native.Mathlib.Numerals.{add-one}
 use native.Mathlib.Omega.{arith}
-use lib.Dec.{ltb}
 use lib.ListN.{length, getD, take, drop, set, length-drop}
 use lib.Seq.{take-take, paste, take-paste, drop-paste, paste-suc, getD-drop}
-use borrow.Author.Tests.{lt-ltb, le-ltb, eq-eqb, ne-eqb}
-use Rattle.trace.specs.declared.Meaning.{Meaning}
-use Rattle.trace.specs.Records.{wordAt, meaning}
-use Rattle.coretrace.specs.declared.input.Window.{Window}
-use Rattle.coretrace.specs.declared.input.Next.the-variants.{End, Cut, Whole}
-use Rattle.coretrace.specs.Input.{waiting, standing, recordOf, nextOf}
-
--- a length that is not 0 passed both tests
-not-refused : (p q : Bool) (n : ℕ) → (cond p 0 (cond q 0 n) ≡ 0 → ⊥) → cond p 0 (cond q 0 n) ≡ n
-not-refused true q n f = absurd (f refl)
-not-refused false true n f = absurd (f refl)
-not-refused false false n f = refl
-
--- the length of the record at the front, where n is the number that the head's two bytes give
-module _ (b : List ℕ) where
-  pub no-head : length b < 2 → standing b ≡ 0
-  unfolding standing
-  no-head h = rw (lt-ltb (length b) 2 h)
-
-  module _ (n : ℕ) (head : n ≡ getD b 0 0 + 256 * getD b 1 0) (h : 2 ≤ length b) where
-    head-is : wordAt b 0 ≡ n
-    unfolding wordAt
-    head-is = sym head
-
-    pub part-of : length b < n + 2 → standing b ≡ 0
-    unfolding standing
-    part-of l = rw (le-ltb (length b) 2 h, head-is, lt-ltb (length b) (n + 2) l)
-
-    pub stands : n + 2 ≤ length b → standing b ≡ n + 2
-    unfolding standing
-    stands l = rw (le-ltb (length b) 2 h, head-is, le-ltb (length b) (n + 2) l)
-
-  pub stands-so : (standing b ≡ 0 → ⊥) → standing b ≡ wordAt b 0 + 2
-  unfolding standing
-  stands-so f = not-refused (ltb (length b) 2) (ltb (length b) (wordAt b 0 + 2)) (wordAt b 0 + 2) f
-
--- what the bytes give
-module _ (b : List ℕ) where
-  pub none-left : length b ≡ 0 → End ≡ nextOf b
-  unfolding nextOf
-  none-left e = rw (eq-eqb (length b) 0 e)
-
-  module _ (some : length b ≡ 0 → ⊥) where
-    pub cut-short : standing b ≡ 0 → Cut ≡ nextOf b
-    unfolding nextOf
-    cut-short e = rw (ne-eqb (length b) 0 some, eq-eqb (standing b) 0 e)
-
-    module _ (n : ℕ) (is : n ≡ standing b) (whole : n ≡ 0 → ⊥) where
-      stands-there : standing b ≡ 0 → ⊥
-      stands-there e = whole (is ∙ e)
-
-      pub record-is : n ≡ wordAt b 0 + 2
-      record-is = is ∙ stands-so b stands-there
-
-      less-head : n - 2 ≡ wordAt b 0
-      less-head = let e = record-is in omega arith
-
-      pub all-there : (m : Meaning) → m ≡ meaning (take (n - 2) (drop 2 b)) → Whole m ≡ nextOf b
-      unfolding nextOf recordOf
-      all-there m e = rw (ne-eqb (length b) 0 some, ne-eqb (standing b) 0 stands-there) (ap Whole (e ∙ ap (λ (k : ℕ). meaning (take k (drop 2 b))) less-head))
+use Rattle.trace.specs.declared.Window.{Window}
+use Rattle.trace.specs.Input.{waiting}
 
 -- bytes moved to the front: j of those from a place on
 module _ (x : List ℕ) (from j : ℕ) (h : from + j < length x) where

@@ -1,2 +1,2 @@
 pub mod InputLaws
-pub mod OutputLaws
+pub mod RunLaws

@@ -11,7 +11,7 @@ use Rattle.words.specs.Searches.{anyFrom, largest}
 use Rattle.blocks.specs.declared.Block.{Block}
 use Rattle.blocks.specs.declared.Bound.{Bound}
 use Rattle.blocks.specs.Blocks.{block, inBlock}
-use Rattle.blocks.specs.FrameWords.{ownersOf, freeIn, heldIn, frameWord}
+use Rattle.blocks.specs.FrameWords.{ownersOf, freeIn, ownedIn, frameWord}
 use Rattle.blocks.specs.Owners.{cleared}
 use Rattle.blocks.specs.Inner.Around.{startOf, around}
 

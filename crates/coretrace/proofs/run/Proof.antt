@@ -1,201 +1,161 @@
-use mathlib.Core.Path.{_≡_, sym, _∙_}
-use Prim.Native.Nat.{_≤_, _-_}
+use borrow.Author.Tests.{not-true, not-false}
+use mathlib.Core.Path.{_≡_, refl, ap, sym, _∙_}
+use Prim.Native.Nat.{_-_}
 use native.Mathlib.Omega.{arith}
 use lib.ListN.{length}
+use Rattle.layout.specs.Tables.{tables}
+use Rattle.trace.specs.Listing.{last}
+use Rattle.trace.specs.Turns.{wantsUnit}
+use Rattle.trace.proofs.ListingLaws.{wants-goes}
+use Rattle.coretrace.proofs.RunLaws.{Turning, starts, runs-out, stops-there, turned, units-fresh, units-stay}
 use borrow.Author.Needs.{needs}
 use Rattle.coretrace.proofs.run.Statement.{statement}
 use Rattle.coretrace.proofs.run.Tie as tie
 use Rattle.coretrace.proofs.run.Reads as reads
 use Rattle.coretrace.proofs.run.Lts as lts
-use Rattle.coretrace.proofs.answering.answer_beside.Reads as answer-beside-reads
-use Rattle.coretrace.proofs.answering.answer_on.Reads as answer-on-reads
-use Rattle.coretrace.proofs.input.fetch.Reads as fetch-reads
-use Rattle.coretrace.proofs.input.fill.Reads as fill-reads
-use Rattle.coretrace.proofs.input.ready.Reads as ready-reads
-use Rattle.coretrace.proofs.input.rest.Reads as rest-reads
-use Rattle.coretrace.proofs.output.line.Reads as line-reads
-use Rattle.coretrace.proofs.output.settle.Reads as settle-reads
+use Rattle.coretrace.proofs.ahead.Reads as ahead-reads
+use Rattle.trace.proofs.fetch.Reads as fetch-reads
 use Rattle.trace.proofs.fresh_units.Reads as fresh-units-reads
-use Rattle.trace.proofs.malformed.Reads as malformed-reads
-use Rattle.trace.proofs.needs_unit.Reads as needs-unit-reads
+use Rattle.trace.proofs.step_beside.Reads as step-beside-reads
+use Rattle.trace.proofs.step_on.Reads as step-on-reads
+use Rattle.trace.proofs.wants_unit.Reads as wants-unit-reads
 
 abbrev Inv-loop : tie.InvT-loop
-Inv-loop control₀ frames₀ pages₀ ranges₀ buffer₀ lines₀ pair₀ window₀ held₀ number₀ control frames pages ranges buffer lines pair window held number = (length control ≡ length control₀) × ((length frames ≡ length frames₀) × ((length pages ≡ length pages₀) × ((length ranges ≡ length ranges₀) × ((length buffer ≡ length buffer₀) × ((length lines ≡ length lines₀) × ((window .from ≤ window .to) × ((window .to ≤ length buffer₀) × ((held ≤ length lines₀) × (number ≤ 18446744073709551615)))))))))
+Inv-loop control₀ frames₀ pages₀ ranges₀ buffer₀ lines₀ units₀ s₀ control frames pages ranges buffer lines units s =
+    (length control ≡ length control₀) × ((length frames ≡ length frames₀) × ((length pages ≡ length pages₀) × ((length ranges ≡ length ranges₀) × ((length buffer ≡ length buffer₀) × ((length lines ≡ length lines₀) × Turning (tables control₀ frames₀ pages₀ ranges₀) (tables control frames pages ranges) units s buffer lines)))))
 
 abbrev μ-loop : tie.MeasureT-loop
-μ-loop control₀ frames₀ pages₀ ranges₀ buffer₀ lines₀ pair₀ window₀ held₀ number₀ control frames pages ranges buffer lines pair window held number = 18446744073709551615 - number
+μ-loop control₀ frames₀ pages₀ ranges₀ buffer₀ lines₀ units₀ s₀ control frames pages ranges buffer lines units s =
+    last - s .number
 
--- src/main.rt:29:9
+-- src/main.rt:65:9
 fresh-units-requires : tie.Need-fresh-units-requires Inv-loop μ-loop
 fresh-units-requires c κs = search needs
 
--- src/main.rt:32:5
+-- src/main.rt:72:5
 loop-holds : tie.Need-loop-holds Inv-loop μ-loop
-loop-holds c = search needs
+loop-holds c = (refl, (refl, (refl, (refl, (refl, (refl, starts _ _ _ _ (c .fresh-units .ensures)))))))
 
--- src/main.rt:34:31
-ready-requires : tie.Need-ready-requires Inv-loop μ-loop
-ready-requires c κs = search needs
+-- src/main.rt:73:9
+ahead-requires : tie.Need-ahead-requires Inv-loop μ-loop
+ahead-requires c κs = let l = c .before .before .before .before .loop in (l .inv .1 .1 .1 .1 .1 .1 .lies, (omega (arith, l, c .before .before .before .before .before .before .before .before .before .before .before .before .pre), (omega (arith, l, c .before .before .before .before .before .before .before .before .before .before .before .before .pre), c .before .before .if1 .taken)))
 
--- src/main.rt:34:9
-settle-requires : tie.Need-settle-requires Inv-loop μ-loop
-settle-requires c κs = search needs
-
--- src/main.rt:35:9
-fill-requires : tie.Need-fill-requires Inv-loop μ-loop
-fill-requires c κs = search needs
-
--- src/main.rt:36:23
+-- src/main.rt:75:13
 fetch-requires : tie.Need-fetch-requires Inv-loop μ-loop
-fetch-requires c κs = search needs
+fetch-requires c κs = let r = c .before .before .before .before .ahead .ensures .0 .lies in (r .ordered, r .within)
 
--- src/main.rt:37:26
-enum-told : tie.Need-enum-told Inv-loop μ-loop
-enum-told c = search needs
+-- src/main.rt:76:12
+wants-unit-requires : tie.Need-wants-unit-requires Inv-loop μ-loop
+wants-unit-requires c κs = search needs
 
--- src/main.rt:37:26
-same-length : tie.Need-same-length Inv-loop μ-loop
-same-length c = search needs
+-- src/main.rt:77:17
+step-on-requires : tie.Need-step-on-requires Inv-loop μ-loop
+step-on-requires c κs = (c .before .before .before .before .before .before .before .before .before .before .before .before .before .ahead .ensures .0, c .before .before .before .before .before .before .before .before .fetch .ensures)
 
--- src/main.rt:37:26
-same-length-2 : tie.Need-same-length-2 Inv-loop μ-loop
-same-length-2 c = search needs
-
--- src/main.rt:37:26
-same-length-3 : tie.Need-same-length-3 Inv-loop μ-loop
-same-length-3 c = search needs
-
--- src/main.rt:37:26
-same-length-4 : tie.Need-same-length-4 Inv-loop μ-loop
-same-length-4 c = search needs
-
--- src/main.rt:37:26
-same-length-5 : tie.Need-same-length-5 Inv-loop μ-loop
-same-length-5 c = search needs
-
--- src/main.rt:37:26
-same-length-6 : tie.Need-same-length-6 Inv-loop μ-loop
-same-length-6 c = search needs
-
--- src/main.rt:37:26
-returns : tie.Need-returns Inv-loop μ-loop
-returns c = omega (arith, c .before .before .before .before .before .before .before .before .before .before .before .before .before .loop, c .before .before .before .before .before .before .before .before .settle)
-
--- src/main.rt:38:57
-enum-told-2 : tie.Need-enum-told-2 Inv-loop μ-loop
-enum-told-2 c = search needs
-
--- src/main.rt:38:57
-malformed-requires : tie.Need-malformed-requires Inv-loop μ-loop
-malformed-requires c κs = search needs
-
--- src/main.rt:38:26
-line-requires : tie.Need-line-requires Inv-loop μ-loop
-line-requires c κs = (omega (arith, c .before .before .before .before .before .before .before .before .before .before .before .before .before .before .before .loop, c .before .before .before .before .before .before .before .before .before .before .before .before .before .before .before .before .before .before .before .before .before .before .before .pre), omega (arith, c .before .before .before .before .before .before .before .before .before .before .before .before .before .before .before .loop, c .before .before .before .before .before .before .before .before .before .before .settle))
-
--- src/main.rt:38:26
-same-length-7 : tie.Need-same-length-7 Inv-loop μ-loop
-same-length-7 c = search needs
-
--- src/main.rt:38:26
-same-length-8 : tie.Need-same-length-8 Inv-loop μ-loop
-same-length-8 c = search needs
-
--- src/main.rt:38:26
-same-length-9 : tie.Need-same-length-9 Inv-loop μ-loop
-same-length-9 c = search needs
-
--- src/main.rt:38:26
-same-length-10 : tie.Need-same-length-10 Inv-loop μ-loop
-same-length-10 c = search needs
-
--- src/main.rt:38:26
-same-length-11 : tie.Need-same-length-11 Inv-loop μ-loop
-same-length-11 c = omega (arith, c .before .before .before .before .before .before .before .before .before .before .before .before .before .before .before .before .before .before .loop, c .before .before .before .before .before .before .before .before .before .before .before .fill)
-
--- src/main.rt:38:26
-same-length-12 : tie.Need-same-length-12 Inv-loop μ-loop
-same-length-12 c = omega (arith, c .before .before .before .before .before .before .before .before .before .before .before .before .before .before .before .before .before .before .loop, c .before .before .line)
-
--- src/main.rt:38:26
-returns-2 : tie.Need-returns-2 Inv-loop μ-loop
-returns-2 c = omega (arith, c .before .before .before .before .before .before .before .before .before .before .before .before .before .before .before .before .before .before .loop, c .before .before .line)
-
--- src/main.rt:39:25
-enum-known-m : tie.Need-enum-known-m Inv-loop μ-loop
-enum-known-m c = search needs
-
--- src/main.rt:41:9
-rest-requires : tie.Need-rest-requires Inv-loop μ-loop
-rest-requires c κs = search needs
-
--- src/main.rt:42:12
-needs-unit-requires : tie.Need-needs-unit-requires Inv-loop μ-loop
-needs-unit-requires c κs = search needs
-
--- src/main.rt:43:17
-answer-on-requires : tie.Need-answer-on-requires Inv-loop μ-loop
-answer-on-requires c κs = (omega (arith, c .before .before .before .before .before .before .before .before .before .before .before .before .before .before .before .before .before .before .before .before .before .before .before .loop, c .before .before .before .before .before .before .before .before .before .before .before .before .before .before .before .before .before .before .before .before .before .before .before .before .before .before .before .before .before .before .before .pre), omega (arith, c .before .before .before .before .before .before .before .before .before .before .before .before .before .before .before .before .before .before .before .before .before .before .before .loop, c .before .before .before .before .before .before .before .before .before .before .before .before .before .before .before .before .before .before .settle))
-
--- src/main.rt:46:13
-add-number : tie.Need-add-number Inv-loop μ-loop
-add-number c = omega (arith, c .before .before .before .before .before .before .before .before .before .before .before .before .before .before .before .before .before .before .before .before .before .before .before .before .before .before .before .before .before .before .before .before .before .before .before .loop, c .before .before .before .before .before .before .before .before .before .before .before .before .before .before .before .before .before .before .before .before .before .before .before .before .before .before .before .before .before .before .before .before .before .before .loop-test)
-
--- src/main.rt:32:5
+-- src/main.rt:72:5
 loop-less : tie.Need-loop-less Inv-loop μ-loop
-loop-less c = omega (arith, c .before .before .before .before .before .before .before .before .before .before .before .before .before .before .before .before .before .before .before .before .before .before .before .before .before .before .before .before .before .before .before .before .before .before .before .loop, c .before .before .before .before .before .before .before .before .before .before .before .before .before .before .before .before .before .before .before .before .before .before .before .before .before .before .before .before .before .before .before .before .before .before .loop-test)
+loop-less c = let n = c .before .before .before .before .before .before .before .before .before .before .before .before .step-on .ensures .0 .number in let a = c .before .before .before .before .before .before .before .before .before .before .before .before .before .before .before .before .before .before .before .before .before .before .before .before .before .before .ahead .ensures in let t = c .before .before .before .before .before .before .before .before .before .before .before .before .before .before .before .before .before .before .before .before .before .before .before .before .before .before .before .before .before .if1 .taken in omega (arith, n, a .1 .0, t)
 
--- src/main.rt:32:5
+-- src/main.rt:72:5
 loop-again : tie.Need-loop-again Inv-loop μ-loop
-loop-again c = let l = c .before .before .before .before .before .before .before .before .before .before .before .before .before .before .before .before .before .before .before .before .before .before .before .before .before .before .before .before .before .before .before .before .before .before .before .loop in (omega (arith, l, c .before .before .before .before .before .before .before .before .before .before .before .answer-on), (omega (arith, l, c .before .before .before .before .before .before .before .before .before .before .before .answer-on), (omega (arith, l, c .before .before .before .before .before .before .before .before .before .before .before .answer-on), (omega (arith, l, c .before .before .before .before .before .before .before .before .before .before .before .answer-on), (omega (arith, l, c .before .before .before .before .before .before .before .before .before .before .before .before .before .before .before .before .before .before .before .before .before .before .before .before .before .before .before .before .fill), (omega (arith, l, c .before .before .before .before .before .before .before .before .before .before .before .answer-on), (omega (arith, c .before .before .before .before .before .before .before .before .before .before .before .before .before .before .before .before .before .before .before .rest), (omega (arith, l, c .before .before .before .before .before .before .before .before .before .before .before .before .before .before .before .before .before .before .before .before .before .before .before .before .before .before .before .before .fill, c .before .before .before .before .before .before .before .before .before .before .before .before .before .before .before .before .before .before .before .rest), (omega (arith, l, c .before .before .before .before .before .before .before .before .before .before .before .answer-on), omega (arith, l, c .before .before .before .before .before .before .before .before .before .before .before .before .before .before .before .before .before .before .before .before .before .before .before .before .before .before .before .before .before .before .before .before .before .before .loop-test))))))))))
+loop-again c =
+    let l = c .before .before .before .before .before .before .before .before .before .before .before .before .before .before .before .before .before .before .before .before .before .before .before .before .before .before .before .before .before .before .before .loop in
+    let ah = c .before .before .before .before .before .before .before .before .before .before .before .before .before .before .before .before .before .before .before .before .before .before .before .before .before .before .ahead in
+    let st = c .before .before .before .before .before .before .before .before .before .before .before .before .step-on in
+    let g = wants-goes (st .ensures .0 .came) (ap wantsUnit (sym (c .before .before .before .before .before .before .before .before .before .before .before .before .before .before .before .before .before .before .before .before .before .fetch .ensures)) ∙ sym (c .before .before .before .before .before .before .before .before .before .before .before .before .before .before .before .before .before .before .before .before .wants-unit .ensures) ∙ c .before .before .before .before .before .before .before .before .before .before .before .before .before .before .before .before .before .before .before .if2 .taken) in
+    (omega (arith, l, st), (omega (arith, l, st), (omega (arith, l, st), (omega (arith, l, st), (omega (arith, l, ah), (omega (arith, l, st), turned _ _ _ _ _ _ _ _ _ _ _ _ (l .inv .1 .1 .1 .1 .1 .1) (ah .ensures .0) (ah .ensures .1 .0) (ah .ensures .1 .1 .0) (st .ensures .0) (st .ensures .1) (omega (arith, st)) g))))))
 
--- src/main.rt:48:13
-answer-beside-requires : tie.Need-answer-beside-requires Inv-loop μ-loop
-answer-beside-requires c κs = (sym (c .before .before .before .before .before .before .needs-unit .ensures) ∙ c .before .before .before .before .before .if1 .left, (omega (arith, c .before .before .before .before .before .before .before .before .before .before .before .before .before .before .before .before .before .before .before .before .before .before .before .loop, c .before .before .before .before .before .before .before .before .before .before .before .before .before .before .before .before .before .before .before .before .before .before .before .before .before .before .before .before .before .before .before .pre), omega (arith, c .before .before .before .before .before .before .before .before .before .before .before .before .before .before .before .before .before .before .before .before .before .before .before .loop, c .before .before .before .before .before .before .before .before .before .before .before .before .before .before .before .before .before .before .settle)))
+-- src/main.rt:82:13
+step-beside-requires : tie.Need-step-beside-requires Inv-loop μ-loop
+step-beside-requires c κs = (c .before .before .before .before .before .before .before .before .before .before .before .before .before .ahead .ensures .0, (c .before .before .before .before .before .before .before .before .fetch .ensures, sym (c .before .before .before .before .before .before .before .wants-unit .ensures) ∙ c .before .before .before .before .before .before .if2 .left))
 
--- src/main.rt:51:13
+-- src/main.rt:88:13
 fresh-units-requires-2 : tie.Need-fresh-units-requires-2 Inv-loop μ-loop
 fresh-units-requires-2 c κs = search needs
 
--- src/main.rt:32:9
-add-number-2 : tie.Need-add-number-2 Inv-loop μ-loop
-add-number-2 c = omega (arith, c .before .before .before .before .before .before .before .before .before .before .before .before .before .before .before .before .before .before .before .before .before .before .before .before .before .before .before .before .before .before .before .before .before .before .before .loop, c .before .before .before .before .before .before .before .before .before .before .before .before .before .before .before .before .before .before .before .before .before .before .before .before .before .before .before .before .before .before .before .before .before .before .loop-test)
-
--- src/main.rt:32:5
+-- src/main.rt:72:5
 loop-less-2 : tie.Need-loop-less-2 Inv-loop μ-loop
-loop-less-2 c = omega (arith, c .before .before .before .before .before .before .before .before .before .before .before .before .before .before .before .before .before .before .before .before .before .before .before .before .before .before .before .before .before .before .before .before .before .before .before .loop, c .before .before .before .before .before .before .before .before .before .before .before .before .before .before .before .before .before .before .before .before .before .before .before .before .before .before .before .before .before .before .before .before .before .before .loop-test)
+loop-less-2 c = let n = c .before .before .before .before .before .before .before .before .before .before .before .before .before .before .before .step-beside .ensures .0 (c .before .before .before .before .before .before .before .before .before .before .before .before .before .before .before .before .before .before .before .before .before .before .before .before .before .before .before .before .before .before .before .before .before .before .loop .units) .number in let a = c .before .before .before .before .before .before .before .before .before .before .before .before .before .before .before .before .before .before .before .before .before .before .before .before .before .before .before .before .before .ahead .ensures in let t = c .before .before .before .before .before .before .before .before .before .before .before .before .before .before .before .before .before .before .before .before .before .before .before .before .before .before .before .before .before .before .before .before .if1 .taken in omega (arith, n, a .1 .0, t)
 
--- src/main.rt:32:5
+-- src/main.rt:72:5
 loop-again-2 : tie.Need-loop-again-2 Inv-loop μ-loop
-loop-again-2 c = let l = c .before .before .before .before .before .before .before .before .before .before .before .before .before .before .before .before .before .before .before .before .before .before .before .before .before .before .before .before .before .before .before .before .before .before .before .loop in (omega (arith, l, c .before .before .before .before .before .before .before .before .before .before .before .answer-beside), (omega (arith, l, c .before .before .before .before .before .before .before .before .before .before .before .answer-beside), (omega (arith, l, c .before .before .before .before .before .before .before .before .before .before .before .answer-beside), (omega (arith, l, c .before .before .before .before .before .before .before .before .before .before .before .answer-beside), (omega (arith, l, c .before .before .before .before .before .before .before .before .before .before .before .before .before .before .before .before .before .before .before .before .before .before .before .before .before .before .before .before .fill), (omega (arith, l, c .before .before .before .before .before .before .before .before .before .before .before .answer-beside), (omega (arith, c .before .before .before .before .before .before .before .before .before .before .before .before .before .before .before .before .before .before .before .rest), (omega (arith, l, c .before .before .before .before .before .before .before .before .before .before .before .before .before .before .before .before .before .before .before .before .before .before .before .before .before .before .before .before .fill, c .before .before .before .before .before .before .before .before .before .before .before .before .before .before .before .before .before .before .before .rest), (omega (arith, l, c .before .before .before .before .before .before .before .before .before .before .before .answer-beside), omega (arith, l, c .before .before .before .before .before .before .before .before .before .before .before .before .before .before .before .before .before .before .before .before .before .before .before .before .before .before .before .before .before .before .before .before .before .before .loop-test))))))))))
+loop-again-2 c =
+    let l = c .before .before .before .before .before .before .before .before .before .before .before .before .before .before .before .before .before .before .before .before .before .before .before .before .before .before .before .before .before .before .before .before .before .before .loop in
+    let ah = c .before .before .before .before .before .before .before .before .before .before .before .before .before .before .before .before .before .before .before .before .before .before .before .before .before .before .before .before .before .ahead in
+    let st = c .before .before .before .before .before .before .before .before .before .before .before .before .before .before .before .step-beside in
+    (omega (arith, l, st), (omega (arith, l, st), (omega (arith, l, st), (omega (arith, l, st), (omega (arith, l, ah), (omega (arith, l, st), units-fresh _ _ _ _ _ _ _ (turned _ _ _ _ _ _ _ _ _ _ _ _ (l .inv .1 .1 .1 .1 .1 .1) (ah .ensures .0) (ah .ensures .1 .0) (ah .ensures .1 .1 .0) (st .ensures .0 (l .units)) (st .ensures .1) (omega (arith, st)) (not-false _ (c .before .before .if3 .left))) _ (c .fresh-units2 .ensures) (c .before .if4 .taken)))))))
 
--- src/main.rt:17:1
-same-length-13 : tie.Need-same-length-13 Inv-loop μ-loop
-same-length-13 c = search needs
+-- src/main.rt:72:5
+loop-less-3 : tie.Need-loop-less-3 Inv-loop μ-loop
+loop-less-3 c = let n = c .before .before .before .before .before .before .before .before .before .before .before .before .before .before .step-beside .ensures .0 (c .before .before .before .before .before .before .before .before .before .before .before .before .before .before .before .before .before .before .before .before .before .before .before .before .before .before .before .before .before .before .before .before .before .loop .units) .number in let a = c .before .before .before .before .before .before .before .before .before .before .before .before .before .before .before .before .before .before .before .before .before .before .before .before .before .before .before .before .ahead .ensures in let t = c .before .before .before .before .before .before .before .before .before .before .before .before .before .before .before .before .before .before .before .before .before .before .before .before .before .before .before .before .before .before .before .if1 .taken in omega (arith, n, a .1 .0, t)
 
--- src/main.rt:17:1
-same-length-14 : tie.Need-same-length-14 Inv-loop μ-loop
-same-length-14 c = search needs
+-- src/main.rt:72:5
+loop-again-3 : tie.Need-loop-again-3 Inv-loop μ-loop
+loop-again-3 c =
+    let l = c .before .before .before .before .before .before .before .before .before .before .before .before .before .before .before .before .before .before .before .before .before .before .before .before .before .before .before .before .before .before .before .before .before .loop in
+    let ah = c .before .before .before .before .before .before .before .before .before .before .before .before .before .before .before .before .before .before .before .before .before .before .before .before .before .before .before .before .ahead in
+    let st = c .before .before .before .before .before .before .before .before .before .before .before .before .before .before .step-beside in
+    (omega (arith, l, st), (omega (arith, l, st), (omega (arith, l, st), (omega (arith, l, st), (omega (arith, l, ah), (omega (arith, l, st), units-stay _ _ _ _ _ _ _ (turned _ _ _ _ _ _ _ _ _ _ _ _ (l .inv .1 .1 .1 .1 .1 .1) (ah .ensures .0) (ah .ensures .1 .0) (ah .ensures .1 .1 .0) (st .ensures .0 (l .units)) (st .ensures .1) (omega (arith, st)) (not-false _ (c .before .if3 .left))) (c .if4 .left)))))))
 
--- src/main.rt:17:1
-same-length-15 : tie.Need-same-length-15 Inv-loop μ-loop
-same-length-15 c = search needs
+-- src/main.rt:52:1
+same-length : tie.Need-same-length Inv-loop μ-loop
+same-length c = search needs
 
--- src/main.rt:17:1
-same-length-16 : tie.Need-same-length-16 Inv-loop μ-loop
-same-length-16 c = search needs
+-- src/main.rt:52:1
+same-length-2 : tie.Need-same-length-2 Inv-loop μ-loop
+same-length-2 c = search needs
 
--- src/main.rt:17:1
-same-length-17 : tie.Need-same-length-17 Inv-loop μ-loop
-same-length-17 c = search needs
+-- src/main.rt:52:1
+same-length-3 : tie.Need-same-length-3 Inv-loop μ-loop
+same-length-3 c = search needs
 
--- src/main.rt:17:1
-same-length-18 : tie.Need-same-length-18 Inv-loop μ-loop
-same-length-18 c = search needs
+-- src/main.rt:52:1
+same-length-4 : tie.Need-same-length-4 Inv-loop μ-loop
+same-length-4 c = search needs
 
--- src/main.rt:17:1
-returns-3 : tie.Need-returns-3 Inv-loop μ-loop
-returns-3 c = search needs
+-- src/main.rt:52:1
+same-length-5 : tie.Need-same-length-5 Inv-loop μ-loop
+same-length-5 c = search needs
+
+-- src/main.rt:52:1
+same-length-6 : tie.Need-same-length-6 Inv-loop μ-loop
+same-length-6 c = search needs
+
+-- src/main.rt:52:1
+returns : tie.Need-returns Inv-loop μ-loop
+returns c = let l = c .before .before .loop in (omega (arith, l, l .inv .1 .1 .1 .1 .1 .1 .lies .held), runs-out _ _ _ _ _ _ (l .inv .1 .1 .1 .1 .1 .1) (c .if1 .left))
+
+-- src/main.rt:52:1
+same-length-7 : tie.Need-same-length-7 Inv-loop μ-loop
+same-length-7 c = omega (arith, c .before .before .before .before .before .before .before .before .before .before .before .before .before .before .before .before .before .before .before .before .before .before .before .before .before .before .before .before .before .before .before .before .loop, c .before .before .before .before .before .before .before .before .before .before .before .before .before .step-beside)
+
+-- src/main.rt:52:1
+same-length-8 : tie.Need-same-length-8 Inv-loop μ-loop
+same-length-8 c = omega (arith, c .before .before .before .before .before .before .before .before .before .before .before .before .before .before .before .before .before .before .before .before .before .before .before .before .before .before .before .before .before .before .before .before .loop, c .before .before .before .before .before .before .before .before .before .before .before .before .before .step-beside)
+
+-- src/main.rt:52:1
+same-length-9 : tie.Need-same-length-9 Inv-loop μ-loop
+same-length-9 c = omega (arith, c .before .before .before .before .before .before .before .before .before .before .before .before .before .before .before .before .before .before .before .before .before .before .before .before .before .before .before .before .before .before .before .before .loop, c .before .before .before .before .before .before .before .before .before .before .before .before .before .step-beside)
+
+-- src/main.rt:52:1
+same-length-10 : tie.Need-same-length-10 Inv-loop μ-loop
+same-length-10 c = omega (arith, c .before .before .before .before .before .before .before .before .before .before .before .before .before .before .before .before .before .before .before .before .before .before .before .before .before .before .before .before .before .before .before .before .loop, c .before .before .before .before .before .before .before .before .before .before .before .before .before .step-beside)
+
+-- src/main.rt:52:1
+same-length-11 : tie.Need-same-length-11 Inv-loop μ-loop
+same-length-11 c = omega (arith, c .before .before .before .before .before .before .before .before .before .before .before .before .before .before .before .before .before .before .before .before .before .before .before .before .before .before .before .before .before .before .before .before .loop, c .before .before .before .before .before .before .before .before .before .before .before .before .before .before .before .before .before .before .before .before .before .before .before .before .before .before .before .ahead)
+
+-- src/main.rt:52:1
+same-length-12 : tie.Need-same-length-12 Inv-loop μ-loop
+same-length-12 c = omega (arith, c .before .before .before .before .before .before .before .before .before .before .before .before .before .before .before .before .before .before .before .before .before .before .before .before .before .before .before .before .before .before .before .before .loop, c .before .before .before .before .before .before .before .before .before .before .before .before .before .step-beside)
+
+-- src/main.rt:52:1
+returns-2 : tie.Need-returns-2 Inv-loop μ-loop
+returns-2 c =
+    let l = c .before .before .before .before .before .before .before .before .before .before .before .before .before .before .before .before .before .before .before .before .before .before .before .before .before .before .before .before .before .before .before .before .loop in
+    let ah = c .before .before .before .before .before .before .before .before .before .before .before .before .before .before .before .before .before .before .before .before .before .before .before .before .before .before .before .ahead in
+    let st = c .before .before .before .before .before .before .before .before .before .before .before .before .before .step-beside in
+    (omega (arith, l, st .ensures .1 .held), stops-there _ _ _ _ _ _ _ _ _ _ _ _ (l .inv .1 .1 .1 .1 .1 .1) (ah .ensures .0) (ah .ensures .1 .0) (ah .ensures .1 .1 .0) (st .ensures .0 (l .units)) (not-true _ (c .if3 .taken)))
 
 pub run-spec : {M : Type 1} → statement M
 run-spec =
@@ -205,11 +165,18 @@ run-spec =
     μ-loop
     fresh-units-requires
     loop-holds
-    ready-requires
-    settle-requires
-    fill-requires
+    ahead-requires
     fetch-requires
-    enum-told
+    wants-unit-requires
+    step-on-requires
+    loop-less
+    loop-again
+    step-beside-requires
+    fresh-units-requires-2
+    loop-less-2
+    loop-again-2
+    loop-less-3
+    loop-again-3
     same-length
     same-length-2
     same-length-3
@@ -217,32 +184,10 @@ run-spec =
     same-length-5
     same-length-6
     returns
-    enum-told-2
-    malformed-requires
-    line-requires
     same-length-7
     same-length-8
     same-length-9
     same-length-10
     same-length-11
     same-length-12
-    returns-2
-    enum-known-m
-    rest-requires
-    needs-unit-requires
-    answer-on-requires
-    add-number
-    loop-less
-    loop-again
-    answer-beside-requires
-    fresh-units-requires-2
-    add-number-2
-    loop-less-2
-    loop-again-2
-    same-length-13
-    same-length-14
-    same-length-15
-    same-length-16
-    same-length-17
-    same-length-18
-    returns-3)
+    returns-2)

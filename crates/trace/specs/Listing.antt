@@ -1,0 +1,49 @@
+-- The listing of a list of input bytes. Document 01, Program coretrace.
+use mathlib.Core.Path.{_≡_}
+use mathlib.Core.Bool.{Bool, true, false}
+use mathlib.Core.List.{List, [], _∷_, _++_}
+use Prim.Native.Nat.{ℕ, _+_, _<_}
+use lib.ListN.{drop, replicate}
+use Rattle.layout.specs.Answers.{refusal}
+use Rattle.layout.specs.Tables.{Tables, tables}
+use Rattle.trace.specs.declared.Meaning.{Meaning}
+use Rattle.trace.specs.declared.Next.{Next}
+use Rattle.trace.specs.declared.Next.the-variants.{End, Cut, Whole}
+use Rattle.trace.specs.declared.Step.{Step}
+use Rattle.trace.specs.declared.TwoUnits.{TwoUnits}
+use Rattle.trace.specs.Input.{standing, nextOf}
+use Rattle.trace.specs.Lines.{line}
+use Rattle.trace.specs.Steps.{freshUnits, Taken}
+
+-- what comes next as record `number`: the bytes that are shown, the tables and units afterwards, and whether the run goes on
+pub data Came (T : Tables) (p : TwoUnits) (number : ℕ) : Next → List ℕ → Tables → TwoUnits → Bool → Type 0 where
+  -- no byte is left: no line
+  ended : Came T p number End [] T p false
+  -- "input cut short: kind 0, answer 16; a cut also stops"
+  cut : Came T p number Cut (line number 0 (refusal 16)) T p false
+  -- "Each further line, one for each record and parted by single spaces: record number from 1, kind, answer, first, second"
+  taken : {m : Meaning} {s : Step} {T′ : Tables} → Taken T p m s T′ → Came T p number (Whole m) (line number (s .kind) (s .outcome)) T′ (s .units) true
+
+-- a record's number has 64 bits, so the program would end before this record
+abbrev pub last : ℕ
+last = 18446744073709551615
+
+-- the lines of the bytes b from record `number` on
+pub data Listed : Tables → TwoUnits → ℕ → List ℕ → List ℕ → Type 0 where
+  full : {T : Tables} {p : TwoUnits} {b : List ℕ} → Listed T p last b []
+  stops : {T T′ : Tables} {p p′ : TwoUnits} {number : ℕ} {b l : List ℕ} → number < last → Came T p number (nextOf b) l T′ p′ false → Listed T p number b l
+  goes-on : {T T′ : Tables} {p p′ : TwoUnits} {number : ℕ} {b l l′ : List ℕ} → number < last → Came T p number (nextOf b) l T′ p′ true → Listed T′ p′ (number + 1) (drop (standing b) b) l′ → Listed T p number b (l ++ l′)
+
+-- "record kind answer first second", in ASCII, with a newline at its end
+unfoldable pub header : List ℕ
+header = 114 ∷ 101 ∷ 99 ∷ 111 ∷ 114 ∷ 100 ∷ 32 ∷ 107 ∷ 105 ∷ 110 ∷ 100 ∷ 32 ∷ 97 ∷ 110 ∷ 115 ∷ 119 ∷ 101 ∷ 114 ∷ 32 ∷ 102 ∷ 105 ∷ 114 ∷ 115 ∷ 116 ∷ 32 ∷ 115 ∷ 101 ∷ 99 ∷ 111 ∷ 110 ∷ 100 ∷ 10 ∷ []
+
+-- "It has two units and zeroed buffers"
+unfoldable pub zeroed : Tables
+zeroed = tables (replicate 195 0) (replicate 4096 0) (replicate 4096 0) (replicate 2048 0)
+
+-- the listing of the bytes b: "The header line shown is printed first", then the lines from record 1 on
+pub record Listing (b out : List ℕ) : Type 0 where
+  pub lines : List ℕ
+  pub listed : Listed zeroed freshUnits 1 b lines
+  pub is : out ≡ header ++ lines
