@@ -21,7 +21,7 @@ use Rattle.blocks.specs.declared.Bound.{Bound}
 use Rattle.blocks.specs.declared.Chosen.{Chosen}
 use Rattle.blocks.specs.Blocks.{inBlock}
 use Rattle.blocks.specs.FrameWords.{ownersOf, freeOf, freeIn, lawful, frameWords}
-use Rattle.blocks.specs.Choice.{takeBlock, without, takeBlocks, framesOf, blocksFor, framesFor}
+use Rattle.blocks.specs.Choice.{takeBlock, without, leftAfter, takeBlocks, framesOf, blocksFor, framesFor}
 use Rattle.blocks.specs.Owners.{put, give}
 use Rattle.blocks.specs.Taking.{Searched, BlockTaken}
 use Rattle.blocks.specs.Inner.Around.{startOf}
