@@ -4,7 +4,7 @@ use mathlib.Core.Bool.{Bool, true, false}
 use mathlib.Core.List.{List, [], _∷_, _++_}
 use Prim.Native.Nat.{ℕ, _+_, _<_}
 use lib.ListN.{drop, replicate}
-use Rattle.layout.specs.Answers.{refusal}
+use Rattle.words.specs.Rows.{refusal}
 use Rattle.layout.specs.Tables.{Tables, tables}
 use Rattle.trace.specs.declared.Meaning.{Meaning}
 use Rattle.trace.specs.declared.Next.{Next}
