@@ -14,13 +14,13 @@ use Rattle.trace.specs.Listing.{Listed, Listing}
 unfoldable pub keeps : State → List ℕ → List ℕ → Bool
 keeps s buffer lines = ltb 0 (standing (waiting (s .window) buffer)) && leb 105 (length lines - s .held)
 
--- the bytes `input` that were taken are listed, from record 1 on: what `sent` has is written by then, and the first `held` bytes of `lines` are still to be written
+-- There are bytes whose lines, from record 1 on, end with the first `held` bytes of `lines`, those still to be written. That `input` is what was read and `sent` what was written, no contract of read and write lets us say
 pub record Ran (T : Tables) (lines : List ℕ) (held : ℕ) : Type 0 where
   pub input : List ℕ
   pub sent : List ℕ
   pub listed : Listed T freshUnits 1 input (sent ++ take held lines)
 
--- the same of the whole program, its header among what is sent
+-- The same of the whole program, its header among what is sent
 pub record Answered (lines : List ℕ) (held : ℕ) : Type 0 where
   pub input : List ℕ
   pub sent : List ℕ

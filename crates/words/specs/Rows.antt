@@ -1,6 +1,6 @@
--- A call by its row. Document 01, Who can be refused, and by what: "Lowest applying number first. Each returns its number and zeros; buffers and unit stay untouched".
+-- A call as a row: the refusals that it is judged by, the values that it answers and what it leaves. Document 01, Who can be refused, and by what: "Lowest applying number first. Each returns its number and zeros; buffers and unit stay untouched".
 use mathlib.Core.Path.{_≡_}
-use mathlib.Core.Bool.{Bool, true, false, not}
+use mathlib.Core.Bool.{Bool, true, false}
 use mathlib.Core.List.{List, [], _∷_, _++_}
 use Prim.Native.Nat.{ℕ}
 use lib.Dec.{eqb}
@@ -56,7 +56,7 @@ pub record Exactly (rs : List (Refusal ℕ)) (number : ℕ) : Type 0 where
 unfoldable pub refusalOrder : List ℕ
 refusalOrder = 1 ∷ 2 ∷ 3 ∷ 4 ∷ 5 ∷ 6 ∷ 7 ∷ 8 ∷ 9 ∷ 10 ∷ 11 ∷ 12 ∷ 13 ∷ 14 ∷ 15 ∷ []
 
--- numbers of the first list, in its order
+-- numbers of the first list, in its order, each at most once
 unfoldable pub among : List ℕ → List ℕ → Bool
 among [] [] = true
 among [] (n ∷ ns) = false
