@@ -113,7 +113,7 @@ row P (Free F o n) =
 abbrev pub Called : PoolCall → PoolWords → Outcome → PoolWords → Type 0
 Called c P = Promised (row P c) P
 
--- what its core, which asks for all of this beforehand, answers and leaves
+-- what `take_frames`, which allocate calls once it has judged the request, answers and leaves
 pub record Taken (F : ℕ) (b : List ℕ) (o n r : ℕ) (b′ out′ : List ℕ) : Type 0 where
   pub blocks : r ≡ blockCount F (freeIn b) n
   pub words : b′ ≡ frameWords F (give (ownersOf b) o (framesFor F (freeIn b) n))

@@ -17,8 +17,8 @@ use Rattle.blocks.specs.FrameWords.{ownedIn, lawful}
 use Rattle.blocks.proofs.Published.{size-test}
 use Rattle.control.specs.Control.{poolSize, openMask, isOpen, lawfulControl}
 use Rattle.control.proofs.ControlLaws.{lawful-says}
-use Rattle.pointing.specs.Pointing.{pageOk}
-use Rattle.pointing.proofs.PointingLaws.{pages-pass, mapped-held, by-count}
+use Rattle.layout.specs.Pointing.{pageOk}
+use Rattle.layout.proofs.PointingLaws.{pages-pass, mapped-held, by-count}
 use Rattle.layout.specs.Tables.{Tables, tables, rightLengths, spacePages, spaceRanges}
 use Rattle.layout.specs.Sound.{sound}
 use Rattle.layout.proofs.SpaceLaws.{part-at}

@@ -21,8 +21,8 @@ use Rattle.runs.specs.Steps.{Onward, Along, nowhere, empty, onward}
 use Rattle.runs.proofs.WordLaws.{zero-unmapped, ahead}
 use Rattle.runs.proofs.StepLaws.{along-room}
 use Rattle.control.specs.Control.{isOpen}
-use Rattle.pointing.specs.Pointing.{pageOk}
-use Rattle.pointing.proofs.PointingLaws.{page-unmapped, page-names}
+use Rattle.layout.specs.Pointing.{pageOk}
+use Rattle.layout.proofs.PointingLaws.{page-unmapped, page-names}
 use Rattle.layout.specs.Tables.{spacePages, spaceRanges}
 use Rattle.layout.proofs.SpaceLaws.{part-at}
 use Rattle.layout.proofs.SoundLaws.{space-room}

@@ -8,7 +8,7 @@ use Rattle.words.specs.Searches.{every}
 use Rattle.runs.specs.PageWords.{mapped}
 use Rattle.runs.specs.Walk.{lawfulRanges}
 use Rattle.control.specs.Control.{isOpen}
-use Rattle.pointing.specs.Pointing.{pageOk}
+use Rattle.layout.specs.Pointing.{pageOk}
 use Rattle.layout.specs.Tables.{Tables, rightLengths, spacePages, spaceRanges}
 use Rattle.layout.specs.Sound.{sound}
 

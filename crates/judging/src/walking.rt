@@ -7,8 +7,8 @@ ghost use Rattle.words.specs.Counts.{count, one-if};
 ghost use Rattle.words.specs.Searches.{allFrom};
 ghost use Rattle.runs.specs.PageWords.{mapped, frameIn};
 ghost use Rattle.runs.specs.Steps.{Onward, Along};
+ghost use Rattle.layout.specs.Pointing.{pageOk};
 ghost use Rattle.judging.specs.Judging.{pageMapped, pageFits, partSound, spaceSound, Named};
-use pointing::page_ok;
 use ranges::lawful::next_place;
 use ranges::lawful::rest_fits;
 use ranges::lawful::step_fits;
@@ -36,6 +36,24 @@ fn unsound() -> Walked
         sound: false,
         mapped: 0,
     }
+}
+
+// Whether page word w at place i of the page buffer is unmapped, or the word of its frame names place i.
+// The way back, from held frames to their pages, has no test: it holds where as many pages are mapped as frames are held (law `by-count`).
+fn page_ok(frames: &[u32], pool: u32, i: u32, w: u32) -> bool
+    requires { ⌜ length (now frames) ≡ 4096 ⌝ }
+    requires { ⌜ i < 4096 ⌝ }
+    ensures { λ r. ⌜ r ≡ pageOk (now (frames .entry)) pool i w ⌝ }
+{
+    if !mapped(w) {
+        return true;
+    }
+    let f = frame_in(w);
+    if pool <= f.0 {
+        return false;
+    }
+    let at = f.0 as usize;
+    frames[at] == i + 1
 }
 
 // Whether page word w at place i of the page buffer is unmapped, or the space is open and the word of its frame names place i.

@@ -17,7 +17,7 @@ use Rattle.words.proofs.SearchLaws.{every-at, at-every}
 use Rattle.words.proofs.CountLaws.{count-ext, count-all, count-not, count-pairs}
 use Rattle.blocks.specs.FrameWords.{isOwner, ownerOf, ownersOf, freeOf, freeIn, ownedIn}
 use Rattle.runs.specs.PageWords.{mapped, frameIn}
-use Rattle.pointing.specs.Pointing.{holds, pageOk, frameOk, pointed}
+use Rattle.layout.specs.Pointing.{holds, pageOk, frameOk, pointed}
 
 -- one word
 
