@@ -1,4 +1,4 @@
-/* A kernel in C makes ten calls and prints the number and the two values of each. */
+/* A kernel in C makes calls and prints the number and the two values of each. */
 #include <stdio.h>
 
 #include "yavrestom.h"
