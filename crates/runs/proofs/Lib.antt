@@ -7,4 +7,3 @@ pub mod RenewLaws
 pub mod CheckLaws
 pub mod PlainLaws
 pub mod ExactLaws
-pub mod EdgeCases
