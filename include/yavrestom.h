@@ -7,7 +7,8 @@
  *
  * A call returns its number: 0 if it was accepted, else the lowest refusal that applies. Its two values go into
  * `values`; a refused call puts zeros there and alters neither buffer nor unit. Where `values` has not exactly
- * YAVRESTOM_VALUES words, the number is 1 and nothing at all is written.
+ * YAVRESTOM_VALUES words, the number is 1 and nothing at all is written. `values` is no part of a pool's buffers or
+ * of a unit, and between calls nobody else writes those.
  *
  * A unit belongs to one pool. Whoever sets up the pool then sets up every unit that translates in it: a unit kept
  * from before may later answer frames of the old pool, and no call can tell. Zeroed words are no fresh unit.
