@@ -12,7 +12,7 @@ use Rattle.history.specs.declared.PageEntry.{PageEntry}
 use Rattle.history.specs.declared.RangeEntry.{RangeEntry}
 use Rattle.history.specs.declared.Unit.{Unit as TlbUnit}
 use Rattle.history.specs.Units.{noPage, noRange}
-use Rattle.catching.specs.Entries.{withPages, withRanges}
+use Rattle.invalidation.specs.Entries.{withPages, withRanges}
 use Rattle.unitwords.specs.UnitWords.{pageAt, rangeAt, unitOf, pageWords, rangeWords, lastWords, joined, wordsOf}
 
 -- past the end of a list

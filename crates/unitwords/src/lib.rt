@@ -3,7 +3,7 @@ ghost use mathlib.Core.Path.{_≡_};
 ghost use Prim.Native.Nat.{_<_};
 ghost use lib.ListN.{length};
 ghost use Rattle.words.specs.Tables.{tabulate};
-ghost use Rattle.catching.specs.Entries.{withPages, withRanges};
+ghost use Rattle.invalidation.specs.Entries.{withPages, withRanges};
 ghost use Rattle.unitwords.specs.UnitWords.{pageAt, rangeAt, unitOf, pageWords, rangeWords, lastWords, joined, wordsOf};
 use history::PageEntry;
 use history::RangeEntry;
@@ -73,7 +73,7 @@ pub fn read_unit(words: &[u32]) -> Unit
     requires { ⌜ length (now words) ≡ 515 ⌝ }
     ensures { λ r. ⌜ r ≡ unitOf (now (words .entry)) ⌝ }
 {
-    let empty = catching::emptied(0);
+    let empty = invalidation::emptied(0);
     let paged = with_pages(empty, words);
     let mut u = with_ranges(paged, words);
     u.last = words[512];

@@ -1,6 +1,6 @@
 use Rattle.unitwords.proofs.EntryLaws.{tabledTo, none-tabled, all-tabled, next-page}
 use Rattle.unitwords.specs.UnitWords.{pageAt}
-use Rattle.catching.specs.Entries.{withPages}
+use Rattle.invalidation.specs.Entries.{withPages}
 use Rattle.history.specs.Units.{noPage}
 use lib.ListN.{length, length-map}
 use native.Mathlib.Omega.{arith}

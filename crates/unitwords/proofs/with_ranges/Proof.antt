@@ -1,6 +1,6 @@
 use Rattle.unitwords.proofs.EntryLaws.{tabledTo, none-tabled, all-tabled, next-range}
 use Rattle.unitwords.specs.UnitWords.{rangeAt}
-use Rattle.catching.specs.Entries.{withRanges}
+use Rattle.invalidation.specs.Entries.{withRanges}
 use Rattle.history.specs.Units.{noRange}
 use lib.ListN.{length, length-map}
 use native.Mathlib.Omega.{arith}

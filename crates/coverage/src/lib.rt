@@ -1,0 +1,119 @@
+// The call coverage: how much of a space's mapped pages lies in ranges. It judges what it is lent and writes nothing.
+ghost use mathlib.Core.Path.{_≡_};
+ghost use mathlib.Core.Bool.{true, _&&_};
+ghost use lib.ListN.{length};
+ghost use Rattle.words.specs.Counts.{count, one-if};
+ghost use Rattle.words.specs.Searches.{anyFrom};
+ghost use Rattle.words.specs.Rows.{refusal, numberOf};
+ghost use Rattle.runs.specs.PageWords.{mapped, rangeBit};
+ghost use Rattle.layout.specs.declared.TableCall.the-variants.{Coverage};
+ghost use Rattle.layout.specs.Answers.{outcome};
+ghost use Rattle.layout.specs.Tables.{tables};
+ghost use Rattle.layout.specs.Calls.{row, Called, coverageFigure};
+ghost use Rattle.tablecheck.specs.Judging.{pageMapped};
+ghost use Rattle.coverage.specs.Measuring.{pageInRange};
+use layout::Answer;
+use ranges::page_words::mapped;
+use ranges::page_words::one_if_mapped;
+use ranges::page_words::range_bit;
+use refusals::judge_shared;
+use refusals::outcome;
+use tablecheck::any_mapped;
+
+// The first refusal that applies, or Done with zeros.
+fn judge_coverage(
+    control: &[u32],
+    frames: &[u32],
+    pages: &[u32],
+    ranges: &[u32],
+    space: u32,
+) -> Answer
+    ensures { λ r. ⌜ outcome r ≡ refusal (numberOf (row (tables (now (control .entry)) (now (frames .entry)) (now (pages .entry)) (now (ranges .entry))) (Coverage space))) ⌝ }
+{
+    let judged = judge_shared(control, frames, pages, ranges, space, 0, 1024, 0);
+    let o = outcome(judged);
+    if o.number != 0 {
+        return judged;
+    }
+    let a = 1024 * (space as usize);
+    let e = a + 1024;
+    if !any_mapped(&pages[a..e], 0, 1024) {
+        return Answer::NotMapped;
+    }
+    judged
+}
+
+// 1 for the word of a page in a range, 0 for any other.
+fn one_if_in_range(w: u32) -> u32
+    ensures { λ r. ⌜ r ≡ one-if (mapped w && rangeBit w) ⌝ }
+{
+    if !mapped(w) {
+        return 0;
+    }
+    if range_bit(w) {
+        return 1;
+    }
+    0
+}
+
+// How many pages of a space are mapped. The caller lends its 1,024 page words.
+fn mapped_pages(part: &[u32]) -> u32
+    requires { ⌜ length (now part) ≡ 1024 ⌝ }
+    ensures { λ r. ⌜ r ≡ count 1024 (pageMapped (now (part .entry))) ⌝ }
+{
+    let mut n: u32 = 0;
+    let mut p = 0;
+    while p < 1024 {
+        n += one_if_mapped(part[p]);
+        p += 1;
+    }
+    n
+}
+
+// How many pages of a space lie in ranges.
+fn pages_in_ranges(part: &[u32]) -> u32
+    requires { ⌜ length (now part) ≡ 1024 ⌝ }
+    ensures { λ r. ⌜ r ≡ count 1024 (pageInRange (now (part .entry))) ⌝ }
+{
+    let mut n: u32 = 0;
+    let mut p = 0;
+    while p < 1024 {
+        n += one_if_in_range(part[p]);
+        p += 1;
+    }
+    n
+}
+
+// The pages in ranges in parts of 10,000 of the mapped pages, rounded down.
+fn figure(part: &[u32]) -> u32
+    requires { ⌜ length (now part) ≡ 1024 ⌝ }
+    requires { ⌜ anyFrom 1024 0 (pageMapped (now part)) ≡ true ⌝ }
+    ensures { λ r. ⌜ r ≡ coverageFigure (count 1024 (pageInRange (now (part .entry)))) (count 1024 (pageMapped (now (part .entry)))) ⌝ }
+{
+    let within = pages_in_ranges(part);
+    let all = mapped_pages(part);
+    10000 * within / all
+}
+
+// Of a space's mapped pages, how many in 10,000 lie in ranges. Refused: 1, 2, 5, 10, 12.
+pub fn coverage(
+    control: &[u32],
+    frames: &[u32],
+    pages: &[u32],
+    ranges: &[u32],
+    space: u32,
+) -> Answer
+    ensures { λ r. ⌜ Called (Coverage space) (tables (now (control .entry)) (now (frames .entry)) (now (pages .entry)) (now (ranges .entry))) (outcome r) (tables (now (control .entry)) (now (frames .entry)) (now (pages .entry)) (now (ranges .entry))) ⌝ }
+{
+    let judged = judge_coverage(control, frames, pages, ranges, space);
+    let o = outcome(judged);
+    if o.number != 0 {
+        return judged;
+    }
+    let a = 1024 * (space as usize);
+    let e = a + 1024;
+    Answer::Done {
+        first: figure(&pages[a..e]),
+        second: 0,
+    }
+}

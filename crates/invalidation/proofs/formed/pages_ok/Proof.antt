@@ -1,0 +1,67 @@
+use Rattle.history.specs.Units.{noPage, pageEntryOk}
+use Rattle.words.proofs.SearchLaws.{all-step, all-stop, all-end, every-places}
+use Rattle.words.specs.Searches.{allFrom, every}
+use borrow.Author.Tests.{not-true, not-false}
+use lib.ListN.{length, getD, length-map}
+use native.Mathlib.Omega.{arith}
+use Prim.Native.Nat.{_≤_, _-_}
+use mathlib.Core.Path.{_≡_, sym, _∙_}
+use borrow.Author.Needs.{needs}
+use Rattle.invalidation.proofs.formed.pages_ok.Statement.{statement}
+use Rattle.invalidation.proofs.formed.pages_ok.Tie as tie
+
+abbrev Inv-loop : tie.InvT-loop
+Inv-loop u k₀ k =
+    (k ≤ 64) × ((length (u .pages) ≡ 64) × (every pageEntryOk 0 (u .pages) ≡ allFrom (64 - k) k (λ i. pageEntryOk i (getD (u .pages) i noPage))))
+
+abbrev μ-loop : tie.MeasureT-loop
+μ-loop u k₀ k = 64 - k
+
+loop-holds : tie.Need-loop-holds Inv-loop μ-loop
+loop-holds c = let len = rw length-map at (c .good .0 .1 .1 .0 .1 .0 .1) in (omega arith, (len, rw len at (every-places pageEntryOk noPage (c .args .t1 .pages))))
+
+cast-e : tie.Need-cast-e Inv-loop μ-loop
+cast-e c = search needs
+
+mul-e : tie.Need-mul-e Inv-loop μ-loop
+mul-e c = search needs
+
+element-copy-out-e : tie.Need-element-copy-out-e Inv-loop μ-loop
+element-copy-out-e c = search needs
+
+page-entry-ok-requires : tie.Need-page-entry-ok-requires Inv-loop μ-loop
+page-entry-ok-requires c κs = search needs
+
+returns : tie.Need-returns Inv-loop μ-loop
+unfolding noPage
+returns c = all-stop _ _ _ (c .before .before .before .loop-test .taken) (sym (c .before .page-entry-ok .ensures) ∙ not-true _ (c .if1 .taken)) ∙ sym (c .before .before .before .before .loop .inv .1 .1)
+
+add-k : tie.Need-add-k Inv-loop μ-loop
+add-k c = search needs
+
+loop-less : tie.Need-loop-less Inv-loop μ-loop
+loop-less c = search needs
+
+loop-again : tie.Need-loop-again Inv-loop μ-loop
+unfolding noPage
+loop-again c = (omega arith, (c .before .before .before .before .loop .inv .1 .0, c .before .before .before .before .loop .inv .1 .1 ∙ all-step _ _ _ (c .before .before .before .loop-test .taken) (sym (c .before .page-entry-ok .ensures) ∙ not-false _ (c .if1 .left))))
+
+returns-2 : tie.Need-returns-2 Inv-loop μ-loop
+returns-2 c = all-end _ _ _ (c .loop-test .left) ∙ sym (c .before .loop .inv .1 .1)
+
+pub pages-ok-spec : {M : Type 1} → statement M
+pages-ok-spec =
+    tie.close
+    (tie.spec
+    Inv-loop
+    μ-loop
+    loop-holds
+    cast-e
+    mul-e
+    element-copy-out-e
+    page-entry-ok-requires
+    returns
+    add-k
+    loop-less
+    loop-again
+    returns-2)

@@ -1,0 +1,165 @@
+// Whether a unit is well formed: its page entries, its range entries, the last used entry and the place to replace.
+ghost use mathlib.Core.Path.{_≡_};
+ghost use Prim.Native.Nat.{ℕ, _-_, _≤_, _<_};
+ghost use lib.Dec.{ltb};
+ghost use Rattle.words.specs.Searches.{allFrom, every};
+ghost use Rattle.history.specs.Units.{frameBy, pageEntryOk, rangeEntryOk, lastOk, unitOk};
+ghost use Rattle.invalidation.specs.Entries.{zeroPage, zeroRange};
+use history::PageEntry;
+use history::RangeEntry;
+use history::Unit;
+use ranges::page_words::frame_at;
+use runs::Page;
+
+// Whether every field of the page entry is zero.
+fn zero_page(e: PageEntry) -> bool
+    ensures { λ r. ⌜ r ≡ zeroPage e ⌝ }
+{
+    if e.valid != 0 {
+        return false;
+    }
+    if e.space != 0 {
+        return false;
+    }
+    if e.page != 0 {
+        return false;
+    }
+    if e.frame != 0 {
+        return false;
+    }
+    e.rights == 0
+}
+
+// The page entry at place k.
+fn page_entry_ok(k: u32, e: PageEntry) -> bool
+    ensures { λ r. ⌜ r ≡ pageEntryOk k e ⌝ }
+{
+    if e.valid != 1 {
+        return zero_page(e);
+    }
+    if 3 < e.space {
+        return false;
+    }
+    if 1023 < e.page {
+        return false;
+    }
+    if e.page % 64 != k {
+        return false;
+    }
+    if 4096 <= e.frame {
+        return false;
+    }
+    e.rights <= 7
+}
+
+// Whether every field of the range entry is zero.
+fn zero_range(e: RangeEntry) -> bool
+    ensures { λ r. ⌜ r ≡ zeroRange e ⌝ }
+{
+    if e.valid != 0 {
+        return false;
+    }
+    if e.space != 0 {
+        return false;
+    }
+    if e.base != 0 {
+        return false;
+    }
+    if e.limit != 0 {
+        return false;
+    }
+    if e.offset != 0 {
+        return false;
+    }
+    e.rights == 0
+}
+
+// Whether each page from BASE up to LIMIT has a frame below 4,096. The frames ascend with the pages, so the first and the last decide.
+fn frames_fit(base: u32, limit: u32, offset: u32) -> bool
+    requires { ⌜ base < limit ⌝ }
+    requires { ⌜ limit ≤ 1024 ⌝ }
+    ensures { λ r. ⌜ r ≡ allFrom (limit - base) base (λ p. ltb (frameBy offset p) 4096) ⌝ }
+{
+    let f = frame_at(Page(base), offset);
+    if 4096 <= f.0 {
+        return false;
+    }
+    f.0 + (limit - base) <= 4096
+}
+
+// A range entry, at any place.
+fn range_entry_ok(e: RangeEntry) -> bool
+    ensures { λ r. ⌜ ((k : ℕ) → r ≡ rangeEntryOk k e) ⌝ }
+{
+    if e.valid != 1 {
+        return zero_range(e);
+    }
+    if 3 < e.space {
+        return false;
+    }
+    if e.limit <= e.base {
+        return false;
+    }
+    if 1024 < e.limit {
+        return false;
+    }
+    if !frames_fit(e.base, e.limit, e.offset) {
+        return false;
+    }
+    e.rights <= 7
+}
+
+fn pages_ok(u: Unit) -> bool
+    ensures { λ r. ⌜ r ≡ every pageEntryOk 0 (u .pages) ⌝ }
+{
+    for k in 0..64 {
+        let e = u.pages[k as usize];
+        if !page_entry_ok(k, e) {
+            return false;
+        }
+    }
+    true
+}
+
+fn ranges_ok(u: Unit) -> bool
+    ensures { λ r. ⌜ r ≡ every rangeEntryOk 0 (u .ranges) ⌝ }
+{
+    for k in 0..32 {
+        let e = u.ranges[k];
+        if !range_entry_ok(e) {
+            return false;
+        }
+    }
+    true
+}
+
+// Whether last used names none or a valid entry.
+fn last_ok(u: Unit) -> bool
+    ensures { λ r. ⌜ r ≡ lastOk (u .ranges) (u .last) ⌝ }
+{
+    let k = u.last;
+    if k == 32 {
+        return true;
+    }
+    if 32 <= k {
+        return false;
+    }
+    let e = u.ranges[k as usize];
+    e.valid == 1
+}
+
+// Whether the unit is well formed.
+pub fn unit_ok(u: Unit) -> bool
+    ensures { λ r. ⌜ r ≡ unitOk u ⌝ }
+{
+    if !pages_ok(u) {
+        return false;
+    }
+    if !ranges_ok(u) {
+        return false;
+    }
+    if !last_ok(u) {
+        return false;
+    }
+    u.next <= 31
+}

@@ -1,0 +1,58 @@
+// Whether the four lent buffers have their lengths, and are sound.
+ghost use mathlib.Core.Path.{_≡_};
+ghost use lib.ListN.{length};
+ghost use Rattle.layout.specs.Tables.{tables, rightLengths};
+ghost use Rattle.layout.specs.Sound.{sound};
+ghost use Rattle.tablecheck.specs.Judging.{soundBuffers};
+use crate::walking::walk_spaces;
+
+// Whether each buffer has its length.
+pub fn right_lengths(control: &[u32], frames: &[u32], pages: &[u32], ranges: &[u32]) -> bool
+    ensures { λ r. ⌜ r ≡ rightLengths (tables (now (control .entry)) (now (frames .entry)) (now (pages .entry)) (now (ranges .entry))) ⌝ }
+{
+    if control.len() != 195 {
+        return false;
+    }
+    if frames.len() != 4096 {
+        return false;
+    }
+    if pages.len() != 4096 {
+        return false;
+    }
+    ranges.len() == 2048
+}
+
+// Whether the tables keep every layout and rule. One pass over each buffer: where each mapped page's frame names the page, the held frames name
+// their pages too as soon as there are as many of the one as of the other.
+pub fn tables_sound(control: &[u32], frames: &[u32], pages: &[u32], ranges: &[u32]) -> bool
+    requires { ⌜ length (now control) ≡ 195 ⌝ }
+    requires { ⌜ length (now frames) ≡ 4096 ⌝ }
+    requires { ⌜ length (now pages) ≡ 4096 ⌝ }
+    requires { ⌜ length (now ranges) ≡ 2048 ⌝ }
+    ensures { λ r. ⌜ r ≡ sound (tables (now (control .entry)) (now (frames .entry)) (now (pages .entry)) (now (ranges .entry))) ⌝ }
+{
+    if !control::control_lawful(control) {
+        return false;
+    }
+    let pool = control::pool_size(control);
+    let judged = frames::unchecked::judge(frames, pool);
+    if !judged.lawful {
+        return false;
+    }
+    let mask = control::open_mask(control);
+    let walked = walk_spaces(mask, frames, pool, pages, ranges);
+    if !walked.sound {
+        return false;
+    }
+    walked.mapped == judged.held
+}
+
+// Whether buffers of any lengths are four buffers of sound tables.
+pub fn check(control: &[u32], frames: &[u32], pages: &[u32], ranges: &[u32]) -> bool
+    ensures { λ r. ⌜ r ≡ soundBuffers (tables (now (control .entry)) (now (frames .entry)) (now (pages .entry)) (now (ranges .entry))) ⌝ }
+{
+    if !right_lengths(control, frames, pages, ranges) {
+        return false;
+    }
+    tables_sound(control, frames, pages, ranges)
+}

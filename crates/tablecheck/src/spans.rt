@@ -1,0 +1,55 @@
+// Spans of pages, and their mapped pages. The caller lends one space's 1,024 page words.
+ghost use mathlib.Core.Path.{_≡_};
+ghost use Prim.Native.Nat.{_+_, _≤_};
+ghost use lib.ListN.{length};
+ghost use Rattle.words.specs.Searches.{allFrom, anyFrom};
+ghost use Rattle.layout.specs.Calls.{isSpan};
+ghost use Rattle.tablecheck.specs.Judging.{pageMapped};
+use ranges::page_words::mapped;
+
+// Whether the span has a page and ends by page 1,023. The sum of first page and page count may not fit a word, so it is not made.
+pub fn is_span(first: u32, count: u32) -> bool
+    ensures { λ r. ⌜ r ≡ isSpan first count ⌝ }
+{
+    if count < 1 {
+        return false;
+    }
+    if 1024 < count {
+        return false;
+    }
+    first <= 1024 - count
+}
+
+// Whether a page of the span is mapped.
+pub fn any_mapped(part: &[u32], first: u32, count: u32) -> bool
+    requires { ⌜ length (now part) ≡ 1024 ⌝ }
+    requires { ⌜ first + count ≤ 1024 ⌝ }
+    ensures { λ r. ⌜ r ≡ anyFrom count first (pageMapped (now (part .entry))) ⌝ }
+{
+    let end = first + count;
+    let mut p = first;
+    while p < end {
+        if mapped(part[p as usize]) {
+            return true;
+        }
+        p += 1;
+    }
+    false
+}
+
+// Whether every page of the span is mapped.
+pub fn all_mapped(part: &[u32], first: u32, count: u32) -> bool
+    requires { ⌜ length (now part) ≡ 1024 ⌝ }
+    requires { ⌜ first + count ≤ 1024 ⌝ }
+    ensures { λ r. ⌜ r ≡ allFrom count first (pageMapped (now (part .entry))) ⌝ }
+{
+    let end = first + count;
+    let mut p = first;
+    while p < end {
+        if !mapped(part[p as usize]) {
+            return false;
+        }
+        p += 1;
+    }
+    true
+}
