@@ -113,7 +113,7 @@ fn space_sound(b: &Buffers, space: u32) -> Option<u32> {
     Some(mapped)
 }
 
-/// Sets the range bits and the range table of one space anew.
+/// Rebuilds the range bits and the range table of one space.
 fn renew(pages: &mut [u32], ranges: &mut [u32]) {
     let mut used = 0;
     let mut from = 0;

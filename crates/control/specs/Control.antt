@@ -1,5 +1,6 @@
 -- The control buffer. Document 01, What the host lends: "Control, 195 words: pool size F (1 to 4,096); count C of removal records; open mask (space s is 2 to the power s; at most 15);
 -- 64 removal records of three words: space (0 to 3), first page, page count (at least 1, ending by page 1,023). Record m (from 1 to C) stands in place m mod 64. Unused places are zero."
+-- The removal records are an invalidation log, kept as a ring of 64 places.
 -- Only the accessors, the three writers and freshControl know where a word stands; everything else goes by their laws.
 use mathlib.Core.Bool.{Bool, true, false, _&&_, _||_}
 use mathlib.Core.List.{List, _∷_}

@@ -5,10 +5,9 @@ use mathlib.Core.List.{List}
 use Prim.Native.Nat.{ℕ, suc, _+_, _-_, _%_, _≤_, _<_}
 use native.Mathlib.Nat.{mod-lt}
 use native.Mathlib.Omega.{arith}
-use lib.Dec.{ltb}
 use borrow.Author.Tests.{lt-ltb, le-ltb}
 use Rattle.control.specs.Control.{removals, recordFits, lawfulControl}
-use Rattle.control.proofs.ControlLaws.{lawful-says, used-exactly, used-says}
+use Rattle.layout.proofs.Published.{lawful-says, used-exactly, used-says}
 use Rattle.history.specs.declared.Unit.{Unit as TlbUnit}
 use Rattle.history.specs.Units.{emptied}
 use Rattle.history.specs.CatchUp.{removalAt, dropped, applied, seenAll, mostUnseen, tooFarBehind, caughtUp}

@@ -55,7 +55,7 @@ fn end_fits(ranges: &[u32], on: bool, at: usize, limit: u32, n: u32, v: u32) -> 
     false
 }
 
-// Whether word w after word v is of the layout, and has the range bit of v where it goes on the run.
+// Whether word w after word v is of the layout, and has the range bit of v where it extends the run.
 fn word_fits(on: bool, v: u32, w: u32) -> bool
     ensures { λ r. ⌜ Decides r (WordFits on v w) ⌝ }
 {

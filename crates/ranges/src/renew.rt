@@ -1,4 +1,4 @@
-// Range bits and range words made anew.
+// Range bits and range words rebuilt.
 ghost use mathlib.Core.Path.{_≡_};
 ghost use Prim.Native.Nat.{_+_, _≤_};
 ghost use lib.ListN.{length};
@@ -83,7 +83,7 @@ fn zero_from(ranges: &mut [u32], at: usize)
     }
 }
 
-// Makes a space's range bits and range words anew from its frames and rights.
+// Rebuilds a space's range bits and range words from its frames and rights.
 pub fn renew(part: &mut [u32], ranges: &mut [u32])
     requires { ⌜ length (now part) ≡ 1024 ⌝ }
     requires { ⌜ length (now ranges) ≡ 512 ⌝ }

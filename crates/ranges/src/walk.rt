@@ -13,7 +13,7 @@ use runs::Page;
 use words::scans::counts_beside;
 use words::scans::zero_to;
 
-// Whether w goes on the run of v.
+// Whether w extends the run of v.
 pub fn joined(v: u32, w: u32) -> bool
     ensures { λ r. ⌜ r ≡ joins v w ⌝ }
 {
@@ -57,7 +57,7 @@ pub fn least(a: u32, b: u32) -> u32
     b
 }
 
-// How many pages from page b on go on the run of word v before them, by words that count up from it. The promise leaves how far.
+// How many pages from page b on extend the run of word v before them, by words that count up from it. The promise leaves how far.
 // The scan reads two stretches side by side, for the check of the tables; here both are the same.
 fn onward_from(part: &[u32], b: Page, v: u32) -> u32
     requires { ⌜ length (now part) ≡ 1024 ⌝ }
@@ -106,7 +106,7 @@ fn over_empty(part: &[u32], b: Page) -> Stretch
     }
 }
 
-// The pages from page b on, after word w, that a walk passes at once: unmapped ones, or those that go on the run of w.
+// The pages from page b on, after word w, that a walk passes at once: unmapped ones, or those that extend the run of w.
 pub fn over(part: &[u32], b: Page, w: u32) -> Stretch
     requires { ⌜ length (now part) ≡ 1024 ⌝ }
     requires { ⌜ b .0 ≤ 1024 ⌝ }

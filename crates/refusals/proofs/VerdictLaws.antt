@@ -15,11 +15,11 @@ use Rattle.words.proofs.Cases.{and-true}
 use Rattle.blocks.specs.FrameWords.{isPoolSize, freeIn}
 use Rattle.blocks.proofs.Published.{lawful-facts}
 use Rattle.runs.specs.PageWords.{allowedRights}
-use Rattle.control.specs.Control.{poolSize, openMask, isOpen}
+use Rattle.control.specs.Control.{poolSize}
 use Rattle.layout.specs.declared.TableCall.the-variants.{Open, Close, Map, Unmap, Protect, Coverage}
-use Rattle.layout.specs.Tables.{Tables, rightLengths}
+use Rattle.layout.specs.Tables.{Tables}
 use Rattle.layout.specs.Sound.{sound}
-use Rattle.layout.specs.Calls.{noSuchSpace, alreadyOpen, isSpan, spaceOpen, mappedAt, alreadyMapped, notMapped, nothingMapped, tooFewFrames, noNumberLeft, sizedRow, row}
+use Rattle.layout.specs.Calls.{noSuchSpace, alreadyOpen, isSpan, mappedAt, alreadyMapped, notMapped, nothingMapped, tooFewFrames, noNumberLeft, sizedRow, row}
 use Rattle.layout.proofs.SoundLaws.{Lengths, lengths-at, sound-parts}
 use Rattle.tablecheck.specs.Judging.{pageMapped}
 use Rattle.tablecheck.proofs.SpanLaws.{lent-mapped}
@@ -46,11 +46,6 @@ rights-pass r h = ap not (le-leb r 7 h)
 pub rights-fail : (r : ℕ) → 7 < r → not (allowedRights r) ≡ true
 unfolding allowedRights
 rights-fail r h = ap not (lt-leb r 7 h)
-
--- 9, 10
-pub open-by : (c : List ℕ) (s m : ℕ) (r : Bool) → m ≡ openMask c → r ≡ isOpen m s → spaceOpen c s ≡ r
-unfolding spaceOpen
-open-by c s m r me re = ap (λ k. isOpen k s) (sym me) ∙ sym re
 
 -- 11, 12: the space's part of the page buffer is lent
 module _ (T : Tables) (s first n : ℕ) (r : Bool) where

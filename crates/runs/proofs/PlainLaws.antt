@@ -1,4 +1,4 @@
--- Runs are blind to the range bit: range bits and range words depend only on which pages are mapped, with which frames and rights. So what was made anew is lawful.
+-- Runs are blind to the range bit: range bits and range words depend only on which pages are mapped, with which frames and rights. So what was rebuilt is lawful.
 use mathlib.Core.Path.{_≡_, refl, ap, ap₂, _∙_, sym}
 use mathlib.Core.Bool.{Bool, true, false}
 use mathlib.Core.List.{List, [], _∷_, _++_}
@@ -114,14 +114,14 @@ pub plain-withBits : (ws : List ℕ) → plain (withBits ws) ≡ plain ws
 unfolding withBits
 plain-withBits ws = plain-bits 0 0 ws
 
--- made anew twice is made anew once
+-- rebuilt twice is rebuilt once
 pub bits-again : (ws : List ℕ) → withBits (withBits ws) ≡ withBits ws
 bits-again ws = bits-blind (withBits ws) ws (plain-withBits ws)
 
 pub ranges-again : (ws : List ℕ) → rangeWords (withBits ws) ≡ rangeWords ws
 ranges-again ws = ranges-blind (withBits ws) ws (plain-withBits ws)
 
--- what was made anew is lawful
+-- what was rebuilt is lawful
 pub renewed-lawful : (ws : List ℕ) → lawfulRanges (withBits ws) (rangeWords ws) ≡ true
 unfolding lawfulRanges
 renewed-lawful ws = rw (bits-again ws, ranges-again ws) (true-and _ _ (same-refl (withBits ws)) (same-refl (rangeWords ws)))

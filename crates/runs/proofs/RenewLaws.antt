@@ -1,11 +1,11 @@
--- The walk that makes range bits and range words anew.
+-- The walk that rebuilds range bits and range words.
 use mathlib.Core.Path.{_≡_, refl, ap, _∙_, sym}
 use mathlib.Core.Bool.{Bool, true, false}
 use mathlib.Core.List.{List, [], _∷_, _++_, append-assoc, append-nil}
 use Prim.Native.Nat.{ℕ, suc, _+_, _-_, _<_, _≤_, zero-le}
 use native.Mathlib.Nat.{add-zero}
 use native.Mathlib.Numerals.{add-one}
-use native.Mathlib.Decide.{decLt, decLe, ℕ-discrete}
+use native.Mathlib.Decide.{decLt, ℕ-discrete}
 use native.Mathlib.Omega.{arith}
 use lib.Dec.{leb}
 use lib.ListN.{length, getD, drop, take, set, replicate, length-append, length-set, replicate-append-replicate}
@@ -179,7 +179,7 @@ module _ (ws xs rs : List ℕ) (i n v at : ℕ) (s : Renewing ws xs rs i n v at)
         waiting = λ q le′. other q (omega arith) ∙ r .pages .above q (omega (arith, marked-le on n)) ∙ s .waiting q (omega arith);
       }
 
-  -- over pages that go on the run
+  -- over pages that extend the run
   renew-onward : (k : ℕ) → mapped v ≡ true → Onward xs i v k → Renewing ws xs rs (i + k) (n + k) (v + k) at
   renew-onward k m o =
       record {

@@ -62,7 +62,7 @@ module _ (ws : List ℕ) where
       rights = λ p lo hi. page (p - x) p (omega arith) hi .rights;
     }
 
-  -- a run that neither neighbour goes on is a longest one
+  -- a run that neither neighbour extends is a longest one
   pub longest-by : (x y : ℕ) → Run ws x y → (0 < x → joins (word (x - 1)) (word x) ≡ false) → (y < length ws → joins (word (y - 1)) (word y) ≡ false) → Longest ws x y
   longest-by x y r before after = record {
     run = r;
@@ -80,7 +80,7 @@ module _ (ws : List ℕ) where
         );
   }
 
-  -- and neither neighbour goes on a longest run
+  -- and neither neighbour extends a longest run
   pub longest-start : (x y : ℕ) → Longest ws x y → 0 < x → joins (word (x - 1)) (word x) ≡ false
   longest-start x y l h =
       by-test (joins (word (x - 1)) (word x))

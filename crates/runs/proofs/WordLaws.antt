@@ -1,4 +1,4 @@
--- Page words: what they say, when one goes on the run of another, and the range bit set anew.
+-- Page words: what they say, when one extends the run of another, and the range bit set again.
 use mathlib.Core.Path.{_≡_, refl, ap, _∙_, sym}
 use mathlib.Core.Bool.{Bool, true, false, _&&_}
 use Prim.Native.Nat.{ℕ, _+_, _*_, _/_, _%_, _<_, _≤_}
@@ -115,7 +115,7 @@ like-bit b w =
       low = λ t. true-false _ t f;
     })
 
--- a range bit set anew
+-- a range bit set again
 pub bit-bit : (a b : Bool) (w : ℕ) → bitWord b (bitWord a w) ≡ bitWord b w
 bit-bit a b w =
     let k = like-bit a w in
@@ -200,7 +200,7 @@ ahead v k m h =
       bit = let half : (v + k) / 32768 ≡ v / 32768 = omega arith in ap (λ (x : ℕ). eqb (x % 2) 1) half;
     }
 
--- one goes on the run of the one before
+-- one extends the run of the one before
 pub ahead-joins : (v k : ℕ) → mapped v ≡ true → frameIn v + (k + 1) ≤ 4095 → Joins (v + k) (v + (k + 1))
 ahead-joins v k m h =
     let a = ahead v k m (omega arith) in

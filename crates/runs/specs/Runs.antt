@@ -1,4 +1,4 @@
--- Runs and ranges of one space. Document 01, Ranges and What the host lends. `ws` are the space's 1,024 page words, `rs` its 512 range words.
+-- Runs and ranges of one space; a range is a range translation of Redundant Memory Mappings. Document 01, Ranges and What the host lends. `ws` are the space's 1,024 page words, `rs` its 512 range words.
 use mathlib.Core.Path.{_≡_}
 use mathlib.Core.Bool.{true}
 use mathlib.Core.List.{List, [], _∷_, _++_}

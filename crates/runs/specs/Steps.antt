@@ -22,7 +22,7 @@ pub record Empty (ws : List ℕ) (i k : ℕ) : Type 0 where
   pub room : i + k ≤ 1024
   pub zero : (q : ℕ) → i ≤ q → q < i + k → getD ws q 0 ≡ 0
 
--- k pages from page i on have the words v + 1, v + 2, ..: where v is a mapped word, they go on its run
+-- k pages from page i on have the words v + 1, v + 2, ..: where v is a mapped word, they extend its run
 pub record Onward (ws : List ℕ) (i v k : ℕ) : Type 0 where
   pub room : i + k ≤ 1024
   pub frames : frameIn v + k ≤ 4095
@@ -34,7 +34,7 @@ pub data Along (ws : List ℕ) (i w : ℕ) : ℕ → ℕ → Type 0 where
   empty : {k : ℕ} → w ≡ 0 → Empty ws i k → Along ws i w k 0
   onward : {k : ℕ} → mapped w ≡ true → Onward ws i w k → Along ws i w k k
 
--- Making anew
+-- Rebuilding
 
 -- the mapped ones of n pages from page a on have the range bit given, the unmapped ones the word 0, and every other is as it was
 pub record Marked (bit : Bool) (xs : List ℕ) (a n : ℕ) (ys : List ℕ) : Type 0 where
@@ -63,7 +63,7 @@ pub record EndFits (rs : List ℕ) (on : Bool) (at b n v : ℕ) : Type 0 where
   pub bit : on ≡ false → rangeBit v ≡ leb 8 n
   pub entry : on ≡ false → 8 ≤ n → part at 4 rs ≡ entryOf b n v
 
--- word w after word v is of the layout, and if mapped has the range bit of v where it goes on the run
+-- word w after word v is of the layout, and if mapped has the range bit of v where it extends the run
 pub record WordFits (on : Bool) (v w : ℕ) : Type 0 where
   pub layout : isPageWord w ≡ true
   pub bit : on ≡ true → mapped w ≡ true → rangeBit w ≡ rangeBit v

@@ -8,7 +8,7 @@ use Rattle.words.specs.Counts.{one-if}
 use Rattle.words.specs.Wrapping.{wrapSub}
 use Rattle.runs.specs.PageWords.{pageWord, mapped, rightsIn, frameIn}
 
--- "consecutive mapped pages with consecutive frames and equal rights": word w, of the next page, goes on the run of word v
+-- "consecutive mapped pages with consecutive frames and equal rights": word w, of the next page, extends the run of word v
 unfoldable pub joins : ℕ → ℕ → Bool
 joins v w = mapped v && (mapped w && (eqb (frameIn w) (frameIn v + 1) && eqb (rightsIn w) (rightsIn v)))
 
@@ -30,7 +30,7 @@ runBefore ws (suc i) = goesOn (runBefore ws i) (wordBefore ws i) (getD ws i 0)
 unfoldable pub runTo : List ℕ → ℕ → ℕ
 runTo ws p = runBefore ws (p + 1)
 
--- how many of the words ws go on the run of v
+-- how many of the words ws extend the run of v
 unfoldable pub runAfter : ℕ → List ℕ → ℕ
 runAfter v [] = 0
 runAfter v (w ∷ ws) = elim (joins v w) [ true ↦ suc (runAfter w ws) | false ↦ 0 ]

@@ -2,11 +2,11 @@
 use mathlib.Core.Path.{_≡_, refl, ap, sym, _∙_}
 use mathlib.Core.Bool.{Bool, true, false, _||_, not}
 use mathlib.Core.List.{List}
-use Prim.Native.Nat.{ℕ, suc, _+_, _-_, _*_, _<_, _≤_}
+use Prim.Native.Nat.{ℕ, _+_, _-_, _*_, _<_, _≤_}
 use native.Mathlib.Nat.{add-zero}
 use native.Mathlib.Omega.{arith}
 use lib.ListN.{length, getD, take, drop}
-use borrow.Author.Tests.{not-true, eqb-true, eq-eqb}
+use borrow.Author.Tests.{not-true, eq-eqb}
 use Rattle.words.specs.Counts.{count, one-if}
 use Rattle.words.specs.Searches.{allFrom, every}
 use Rattle.words.specs.Tables.{part}
@@ -17,7 +17,7 @@ use Rattle.words.proofs.ScanLaws.{beside-at}
 use Rattle.words.proofs.CountLaws.{count-step, one-if-le, count-ext, count-split, none-pass, all-pass}
 use Rattle.runs.specs.PageWords.{mapped, frameIn}
 use Rattle.runs.specs.Walk.{lawfulRanges}
-use Rattle.runs.specs.Steps.{Onward, Along, nowhere, empty, onward}
+use Rattle.runs.specs.Steps.{Along, nowhere, empty, onward}
 use Rattle.runs.proofs.WordLaws.{zero-unmapped, ahead}
 use Rattle.runs.proofs.StepLaws.{along-room}
 use Rattle.control.specs.Control.{isOpen}

@@ -68,7 +68,7 @@ fn page_fits(frames: &[u32], pool: u32, opened: bool, i: u32, w: u32) -> bool
     !mapped(w)
 }
 
-// A number of pages from page b on that go on the run of the mapped word w, with frames that are in the pool and have words that name them. The promise leaves how many.
+// A number of pages from page b on that extend the run of the mapped word w, with frames that are in the pool and have words that name them. The promise leaves how many.
 fn onward_fitting(frames: &[u32], pool: u32, first: u32, part: &[u32], b: Page, w: u32) -> u32
     requires { ⌜ length (now frames) ≡ 4096 ⌝ }
     requires { ⌜ pool ≤ 4096 ⌝ }
@@ -90,7 +90,7 @@ fn onward_fitting(frames: &[u32], pool: u32, first: u32, part: &[u32], b: Page, 
     counts_beside(part, from, w + 1, frames, at, place + 1, most as usize) as u32
 }
 
-// The pages from page b on, after word w, that fit at once: unmapped ones, or those that go on the run of w and whose frames name them.
+// The pages from page b on, after word w, that fit at once: unmapped ones, or those that extend the run of w and whose frames name them.
 fn over_fitting(frames: &[u32], pool: u32, first: u32, part: &[u32], b: Page, w: u32) -> Stretch
     requires { ⌜ length (now frames) ≡ 4096 ⌝ }
     requires { ⌜ pool ≤ 4096 ⌝ }

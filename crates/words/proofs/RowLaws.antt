@@ -6,7 +6,7 @@ use Prim.Native.Nat.{ℕ, zero, suc, _<_, _≤_}
 use native.Mathlib.Omega.{arith}
 use lib.Dec.{leb, eqb}
 use lib.ListN.{length, getD}
-use borrow.Author.Tests.{eq-eqb, ne-eqb, eqb-true, eqb-false, leb-true, le-leb}
+use borrow.Author.Tests.{eq-eqb, ne-eqb, eqb-true, eqb-false, leb-true}
 use Rattle.words.specs.declared.Outcome.{Outcome}
 use Rattle.words.specs.Refusals.{Refusal, decide, numbers, NoneApplies}
 use Rattle.words.specs.Rows.{refusal, values, accepted, leaves, Row, numberOf, outcomeOf, Promised, after, Exactly, refusalOrder, among, inOrder}

@@ -8,7 +8,8 @@ use Rattle.words.specs.Rows.{refusal}
 use Rattle.words.proofs.RefusalLaws.{refused, passed, decided}
 use Rattle.words.proofs.RowLaws.{none-first, stops, refused-then, judged-then}
 use Rattle.refusals.specs.Parts.{ofTables}
-use Rattle.refusals.proofs.VerdictLaws.{tables-order, tables-shown, open-by, open-parts}
+use Rattle.layout.proofs.CallLaws.{open-by}
+use Rattle.refusals.proofs.VerdictLaws.{tables-order, tables-shown, open-parts}
 
 -- src/lib.rt:161:9
 judge-tables-requires : tie.Need-judge-tables-requires

@@ -7,7 +7,8 @@ use borrow.Author.Tests.{not-true, not-false, le-ltb, lt-ltb}
 use Rattle.words.specs.Rows.{refusal}
 use Rattle.words.proofs.RefusalLaws.{refused, passed, decided}
 use Rattle.refusals.specs.Parts.{ofSpan}
-use Rattle.refusals.proofs.VerdictLaws.{open-by, rights-pass, rights-fail}
+use Rattle.layout.proofs.CallLaws.{open-by}
+use Rattle.refusals.proofs.VerdictLaws.{rights-pass, rights-fail}
 
 -- src/lib.rt:82:9
 returns : tie.Need-returns

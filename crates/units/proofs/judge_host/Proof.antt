@@ -6,7 +6,7 @@ use mathlib.Core.Bool.{not}
 use borrow.Author.Tests.{not-true, not-false}
 use Rattle.words.specs.Rows.{refusal}
 use Rattle.words.proofs.RefusalLaws.{refused, passed, decided}
-use Rattle.layout.proofs.SoundLaws.{lengths-at}
+use Rattle.layout.proofs.Published.{lengths-at}
 use Rattle.history.specs.Translate.{hostRefusals}
 use Rattle.units.proofs.TranslationLaws.{seen-more, seen-less}
 
