@@ -20,4 +20,5 @@ pub use Rattle.layout.proofs.ChangeLaws.{setUp-valid, span-test, test-s
 pub use Rattle.layout.proofs.CallLaws.{opened-valid, closed-valid, mapped-valid, unmapped-valid, protected-valid}
 -- the calls: what an accepted one was asked and leaves, and that a refused one alters nothing
 pub use Rattle.layout.proofs.CallLaws.{Judged, Opening, Closing, Mapping, Unmapping, Protecting, setUp-facts, open-facts, close-facts, map-facts, unmap-facts, protect-facts}
-pub use Rattle.layout.proofs.CallLaws.{call-none, call-is, refused-alters-nothing}
+pub use Rattle.layout.proofs.AcceptedLaws.{call-none, call-is}
+pub use Rattle.layout.proofs.CallLaws.{refused-alters-nothing}
