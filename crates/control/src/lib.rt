@@ -4,6 +4,7 @@ ghost use mathlib.Core.Bool.{true, false};
 ghost use Prim.Native.Nat.{_+_, _^_, _≤_, _<_};
 ghost use lib.ListN.{length};
 ghost use Rattle.control.specs.Control.{poolSize, removals, openMask, placeOf, recordSpace, recordFirst, recordCount, used, recordOk, recordFits, lawfulControl, isOpen, opened, closedMask, appended, freshControl};
+use runs::Page;
 
 const POOL: usize = 0;
 
@@ -56,13 +57,13 @@ pub fn record_space(control: &[u32], j: u32) -> u32
 }
 
 // Its first page.
-pub fn record_first(control: &[u32], j: u32) -> u32
+pub fn record_first(control: &[u32], j: u32) -> Page
     requires { ⌜ length (now control) ≡ 195 ⌝ }
     requires { ⌜ j < 64 ⌝ }
-    ensures { λ r. ⌜ r ≡ recordFirst (now (control .entry)) j ⌝ }
+    ensures { λ r. ⌜ r .0 ≡ recordFirst (now (control .entry)) j ⌝ }
 {
     let at = place_of(j);
-    control[at + 1]
+    Page(control[at + 1])
 }
 
 // Its page count.
@@ -140,7 +141,7 @@ fn record_fits(control: &[u32], j: u32) -> bool
     let stands = is_used(removal_count(control), j);
     let space = record_space(control, j);
     let first = record_first(control, j);
-    record_ok(stands, space, first, record_count(control, j))
+    record_ok(stands, space, first.0, record_count(control, j))
 }
 
 // Whether the control buffer keeps its layout.
@@ -177,16 +178,16 @@ fn next_number(m: u32) -> u32
 }
 
 // Appends a removal record.
-pub fn append(control: &mut [u32], space: u32, first: u32, count: u32)
+pub fn append(control: &mut [u32], space: u32, first: Page, count: u32)
     requires { ⌜ length (now control) ≡ 195 ⌝ }
     requires { ⌜ (removals (now control) ≡ 4294967295 → ⊥) ⌝ }
-    ensures { λ _. ⌜ now (control .exit) ≡ appended (now (control .entry)) space first count ⌝ }
+    ensures { λ _. ⌜ now (control .exit) ≡ appended (now (control .entry)) space (first .0) count ⌝ }
 {
     let m = next_number(removal_count(control));
     let at = place_of(m % 64);
     control[REMOVALS] = m;
     control[at] = space;
-    control[at + 1] = first;
+    control[at + 1] = first.0;
     control[at + 2] = count;
 }
 

@@ -24,7 +24,7 @@ fn removal_at(control: &[u32], m: u32) -> Removal
     let count = control::record_count(control, j);
     Removal {
         space,
-        first,
+        first: first.0,
         count,
     }
 }

@@ -8,14 +8,14 @@ use Rattle.control.specs.Control.{recordFirst}
 place-of-requires : tie.Need-place-of-requires
 place-of-requires c κs = search needs
 
-add-result : tie.Need-add-result
-add-result c = search needs
+add-t4 : tie.Need-add-t4
+add-t4 c = search needs
 
-mul-result : tie.Need-mul-result
-mul-result c = search needs
+mul-t5 : tie.Need-mul-t5
+mul-t5 c = search needs
 
-shared-slice-read-result : tie.Need-shared-slice-read-result
-shared-slice-read-result c = search needs
+shared-slice-read-t7 : tie.Need-shared-slice-read-t7
+shared-slice-read-t7 c = search needs
 
 returns : tie.Need-returns
 unfolding recordFirst
@@ -23,4 +23,4 @@ returns c = rw (← (c .before .place-of .ensures .0)) refl
 
 pub record-first-spec : {M : Type 1} → statement M
 record-first-spec =
-    tie.close (tie.spec place-of-requires add-result mul-result shared-slice-read-result returns)
+    tie.close (tie.spec place-of-requires add-t4 mul-t5 shared-slice-read-t7 returns)
