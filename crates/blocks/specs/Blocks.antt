@@ -13,9 +13,16 @@ block k s = record { start = record { 0 = s }; order = k }
 abbrev pub pastMultiple : ℕ → ℕ → ℕ
 pastMultiple k s = s % 2 ^ k
 
+-- "order k, 0 to 10"
+abbrev pub largestOrder : ℕ
+largestOrder = 10
+
+abbrev pub orders : ℕ
+orders = 11
+
 -- "A block of order k, 0 to 10, is 2 to the power k frames starting at a multiple of that."
 unfoldable pub isBlock : ℕ → ℕ → Bool
-isBlock k s = leb k 10 && eqb (pastMultiple k s) 0
+isBlock k s = leb k largestOrder && eqb (pastMultiple k s) 0
 
 -- frame g is one of the block of order k at s
 unfoldable pub inBlock : ℕ → ℕ → ℕ → Bool
@@ -35,7 +42,7 @@ whollyFree F free k s = isBlock k s && (leb (sizeFor k s) F && allFrom (2 ^ k) s
 
 -- the block of order k at s lies in a larger such block
 unfoldable pub inLarger : ℕ → (ℕ → Bool) → ℕ → ℕ → Bool
-inLarger F free k s = anyFrom (10 - k) (suc k) (λ m. anyFrom F 0 (λ t. liesIn k s m t && whollyFree F free m t))
+inLarger F free k s = anyFrom (largestOrder - k) (suc k) (λ m. anyFrom F 0 (λ t. liesIn k s m t && whollyFree F free m t))
 
 -- "Free blocks are exactly the wholly free blocks inside the pool that lie in no larger such block."
 unfoldable pub freeBlock : ℕ → (ℕ → Bool) → ℕ → ℕ → Bool

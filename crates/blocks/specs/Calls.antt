@@ -17,7 +17,7 @@ use Rattle.blocks.specs.declared.Reply.{Reply}
 use Rattle.blocks.specs.declared.Reply.the-variants.{Done, WrongLength, Unlawful, WrongPoolSize, WrongSpan, AlreadyHeld, NotHeld, TooFewFrames}
 use Rattle.blocks.specs.declared.PoolCall.{PoolCall}
 use Rattle.blocks.specs.declared.PoolCall.the-variants.{SetUp, Check, Count, Allocate, Free}
-use Rattle.blocks.specs.FrameWords.{bufferLength, largestOwner, isPoolSize, ownersOf, freeIn, lawful, frameWords}
+use Rattle.blocks.specs.FrameWords.{frameBufferWords, largestOwner, isPoolSize, ownersOf, freeIn, lawful, frameWords}
 use Rattle.blocks.specs.Choice.{framesFor, blockCount}
 use Rattle.blocks.specs.Owners.{give, freed, holds}
 
@@ -44,7 +44,7 @@ lent b out = record { frames = b; out = out }
 
 -- "1 a buffer length differs"
 abbrev pub wrongLength : List ℕ → Refusal ℕ
-wrongLength b = record { when = not (eqb (length b) bufferLength); answer = 1 }
+wrongLength b = record { when = not (eqb (length b) frameBufferWords); answer = 1 }
 
 -- "2 tables unsound": of the pool's one buffer
 abbrev pub unlawful : ℕ → List ℕ → Refusal ℕ

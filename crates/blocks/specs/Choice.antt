@@ -8,7 +8,7 @@ use lib.ListN.{length}
 use Rattle.words.specs.Tables.{tabFrom}
 use Rattle.words.specs.Searches.{firstFrom, largest, is-some}
 use Rattle.blocks.specs.declared.Block.{Block}
-use Rattle.blocks.specs.Blocks.{block, inBlock, freeBlock}
+use Rattle.blocks.specs.Blocks.{largestOrder, orders, block, inBlock, freeBlock}
 
 -- the lowest start of a free block of order k
 unfoldable pub lowest : ℕ → (ℕ → Bool) → ℕ → Option ℕ
@@ -16,7 +16,7 @@ lowest F free k = firstFrom F 0 (freeBlock F free k)
 
 -- the smallest order from i on that has a free block
 unfoldable pub serving : ℕ → (ℕ → Bool) → ℕ → Option ℕ
-serving F free i = firstFrom (11 - i) i (λ j. is-some (lowest F free j))
+serving F free i = firstFrom (orders - i) i (λ j. is-some (lowest F free j))
 
 -- 2 to the power i is at most the pages left, and some free block has order i or above
 unfoldable pub isServed : ℕ → (ℕ → Bool) → ℕ → ℕ → Bool
@@ -24,7 +24,7 @@ isServed F free left i = leb (2 ^ i) left && is-some (serving F free i)
 
 -- "the order i is the largest with 2 to the power i at most the pages left and some free block of order i or above"
 unfoldable pub orderFor : ℕ → (ℕ → Bool) → ℕ → Option ℕ
-orderFor F free left = largest 10 (isServed F free left)
+orderFor F free left = largest largestOrder (isServed F free left)
 
 -- "Take from the smallest such order, lowest start; split, keeping the lower half, until order i": the lower half starts where the block does
 unfoldable pub cutAt : ℕ → Option ℕ → Option Block

@@ -8,19 +8,20 @@ use lib.Dec.{leb, ltb, eqb}
 use lib.ListN.{length, getD}
 use Rattle.words.specs.Tables.{tabulate}
 use Rattle.words.specs.Searches.{every, firstFrom}
-use Rattle.blocks.specs.Blocks.{freeBlock}
+use Rattle.blocks.specs.Blocks.{orders, freeBlock}
 
 -- "Frames, 4,096 words"
-abbrev pub bufferLength : ℕ
-bufferLength = 4096
+abbrev pub frameBufferWords : ℕ
+frameBufferWords = 4096
 
+-- "pool size F (1 to 4,096)"
 abbrev pub largestPool : ℕ
 largestPool = 4096
 
+-- 1 + 1,024 × space + page, of the last page of the last space
 abbrev pub largestOwner : ℕ
 largestOwner = 4096
 
--- "pool size F (1 to 4,096)"
 unfoldable pub isPoolSize : ℕ → Bool
 isPoolSize F = leb 1 F && leb F largestPool
 
@@ -64,7 +65,7 @@ firstOrOther none = otherFree
 
 -- the word of a free frame
 unfoldable pub freeWord : ℕ → (ℕ → Bool) → ℕ → ℕ
-freeWord F free f = firstOrOther (firstFrom 11 0 (λ k. freeBlock F free k f))
+freeWord F free f = firstOrOther (firstFrom orders 0 (λ k. freeBlock F free k f))
 
 -- w can stand at place f: an owner or the free frame's word below F, and 65,535 at or above F
 unfoldable pub lawfulAt : ℕ → (ℕ → Bool) → ℕ → ℕ → Bool
@@ -73,7 +74,7 @@ lawfulAt F free f w = elim (ltb f F) [ true ↦ isOwner w || eqb w (freeWord F f
 -- the frame buffer's part of what document 01 calls sound. An owner may stand at several frames here:
 -- that it stands at one only follows from "frame and page words point at each other", which is for the tables above
 unfoldable pub lawful : ℕ → List ℕ → Bool
-lawful F b = eqb (length b) bufferLength && (isPoolSize F && every (lawfulAt F (freeIn b)) 0 b)
+lawful F b = eqb (length b) frameBufferWords && (isPoolSize F && every (lawfulAt F (freeIn b)) 0 b)
 
 -- the word of frame f, where owner g is the owner of frame g and 0 says that it is free
 unfoldable pub frameWord : ℕ → (ℕ → ℕ) → ℕ → ℕ
@@ -85,4 +86,4 @@ frameWord F owner f =
 
 -- the whole buffer
 unfoldable pub frameWords : ℕ → (ℕ → ℕ) → List ℕ
-frameWords F owner = tabulate bufferLength (frameWord F owner)
+frameWords F owner = tabulate frameBufferWords (frameWord F owner)

@@ -6,7 +6,7 @@ use mathlib.Core.Option.{none, some}
 use Prim.Native.Nat.{ℕ, _<_, _≤_}
 use Rattle.blocks.specs.declared.Bound.{Bound}
 use Rattle.blocks.specs.declared.Chosen.{Chosen}
-use Rattle.blocks.specs.Blocks.{freeBlock}
+use Rattle.blocks.specs.Blocks.{largestOrder, freeBlock}
 use Rattle.blocks.specs.FrameWords.{ownersOf, freeIn, frameWords}
 use Rattle.blocks.specs.Choice.{lowest, takeBlock, framesOf}
 use Rattle.blocks.specs.Owners.{give}
@@ -17,13 +17,13 @@ pub record Clear (F : ℕ) (free : ℕ → Bool) (k f : ℕ) : Type 0 where
 
 -- what earlier searches have shown: no free block has an order above the limit, and none of that order starts below `from`
 pub record Searched (F : ℕ) (free : ℕ → Bool) (x : Bound) : Type 0 where
-  pub small : x .limit ≤ 10
-  pub above : (k : ℕ) → x .limit < k → k ≤ 10 → lowest F free k ≡ none
+  pub small : x .limit ≤ largestOrder
+  pub above : (k : ℕ) → x .limit < k → k ≤ largestOrder → lowest F free k ≡ none
   pub before : Clear F free (x .limit) (x .from .0)
 
 -- before the first search
 abbrev pub nothingKnown : Bound
-nothingKnown = record { limit = 10; from = record { 0 = 0 } }
+nothingKnown = record { limit = largestOrder; from = record { 0 = 0 } }
 
 -- the block that the rule takes for the pages left is given to the owners o, o + 1, .., and what is then known holds of the words left
 pub record BlockTaken (F : ℕ) (b : List ℕ) (o left : ℕ) (r : Chosen) (b′ : List ℕ) : Type 0 where

@@ -7,8 +7,27 @@ use mathlib.Core.List.{List, _∷_}
 use Prim.Native.Nat.{ℕ, _+_, _-_, _*_, _/_, _%_, _^_}
 use lib.Dec.{leb, eqb}
 use lib.ListN.{getD, set, replicate}
+use Rattle.words.specs.Sizes.{lastSpace, pagesInSpace}
 use Rattle.words.specs.Searches.{allFrom}
 use Rattle.blocks.specs.FrameWords.{isPoolSize}
+
+-- "Control, 195 words"
+abbrev pub controlWords : ℕ
+controlWords = 195
+
+-- "64 removal records of three words", behind F, C and the open mask
+abbrev pub recordsFrom : ℕ
+recordsFrom = 3
+
+abbrev pub wordsInRecord : ℕ
+wordsInRecord = 3
+
+abbrev pub logPlaces : ℕ
+logPlaces = 64
+
+-- "open mask (space s is 2 to the power s; at most 15)"
+abbrev pub allOpen : ℕ
+allOpen = 15
 
 -- F
 unfoldable pub poolSize : List ℕ → ℕ
@@ -23,7 +42,7 @@ openMask c = getD c 2 0
 
 -- the first word of place j
 unfoldable pub placeOf : ℕ → ℕ
-placeOf j = 3 + 3 * j
+placeOf j = recordsFrom + wordsInRecord * j
 
 unfoldable pub recordSpace : List ℕ → ℕ → ℕ
 recordSpace c j = getD c (placeOf j) 0
@@ -46,13 +65,13 @@ withRecord c j space first count = set (set (set c (placeOf j) space) (placeOf j
 
 -- "Record m (from 1 to C) stands in place m mod 64": some record stands in place j, for j below 64
 unfoldable pub used : ℕ → ℕ → Bool
-used C j = leb 64 C || (leb 1 j && leb j C)
+used C j = leb logPlaces C || (leb 1 j && leb j C)
 
 -- "space (0 to 3), first page, page count (at least 1, ending by page 1,023)"; "unused places are zero"
 unfoldable pub recordOk : Bool → ℕ → ℕ → ℕ → Bool
 recordOk u space first count =
     elim u [
-      | true ↦ leb space 3 && (leb 1 count && leb (first + count) 1024)
+      | true ↦ leb space lastSpace && (leb 1 count && leb (first + count) pagesInSpace)
       | false ↦ eqb space 0 && (eqb first 0 && eqb count 0)
     ]
 
@@ -61,7 +80,7 @@ recordFits c j = recordOk (used (removals c) j) (recordSpace c j) (recordFirst c
 
 -- the control buffer's part of what document 01 calls sound
 unfoldable pub lawfulControl : List ℕ → Bool
-lawfulControl c = isPoolSize (poolSize c) && (leb (openMask c) 15 && allFrom 64 0 (recordFits c))
+lawfulControl c = isPoolSize (poolSize c) && (leb (openMask c) allOpen && allFrom logPlaces 0 (recordFits c))
 
 -- "space s is 2 to the power s"
 unfoldable pub isOpen : ℕ → ℕ → Bool
@@ -75,8 +94,8 @@ closedMask c s = withMask c (openMask c - 2 ^ s)
 
 -- one removal record more
 unfoldable pub appended : List ℕ → ℕ → ℕ → ℕ → List ℕ
-appended c space first count = withRecord (withRemovals c (removals c + 1)) ((removals c + 1) % 64) space first count
+appended c space first count = withRecord (withRemovals c (removals c + 1)) ((removals c + 1) % logPlaces) space first count
 
 -- after set up pool: "no space open, C = 0, .. records zero"
 unfoldable pub freshControl : ℕ → List ℕ
-freshControl F = F ∷ replicate 194 0
+freshControl F = F ∷ replicate (controlWords - 1) 0

@@ -7,7 +7,7 @@ use lib.Dec.{eqb}
 use borrow.Author.Tests.{eq-eqb, ne-eqb, eqb-true, eqb-false, le-leb}
 use Rattle.words.specs.Counts.{one-if}
 use Rattle.words.proofs.Cases.{by-test, true-false, and-true, true-and}
-use Rattle.runs.specs.PageWords.{pageWord, mapped, rangeBit, rightsIn, frameIn, allowedRights, isPageWord}
+use Rattle.runs.specs.PageWords.{rightsFactor, pageWord, mapped, rangeBit, rightsIn, frameIn, allowedRights, isPageWord}
 use Rattle.runs.specs.Walk.{joins, goesOn, bitWord}
 
 is-mapped : (w : ℕ) → w / 65536 ≡ 1 → mapped w ≡ true
@@ -188,7 +188,7 @@ pub record Ahead (v k : ℕ) : Type 0 where
   pub rights : rightsIn (v + k) ≡ rightsIn v
   pub bit : rangeBit (v + k) ≡ rangeBit v
 
-pub ahead : (v k : ℕ) → mapped v ≡ true → frameIn v + k ≤ 4095 → Ahead v k
+pub ahead : (v k : ℕ) → mapped v ≡ true → frameIn v + k < rightsFactor → Ahead v k
 unfolding frameIn rightsIn rangeBit
 ahead v k m h =
     let top : v / 65536 ≡ 1 = mapped-at v m in
@@ -201,7 +201,7 @@ ahead v k m h =
     }
 
 -- one extends the run of the one before
-pub ahead-joins : (v k : ℕ) → mapped v ≡ true → frameIn v + (k + 1) ≤ 4095 → Joins (v + k) (v + (k + 1))
+pub ahead-joins : (v k : ℕ) → mapped v ≡ true → frameIn v + (k + 1) < rightsFactor → Joins (v + k) (v + (k + 1))
 ahead-joins v k m h =
     let a = ahead v k m (omega arith) in
     let b = ahead v (k + 1) m h in

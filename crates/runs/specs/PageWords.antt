@@ -5,25 +5,38 @@ use Prim.Native.Nat.{ℕ, _+_, _*_, _/_, _%_}
 use lib.Dec.{leb, eqb}
 use Rattle.words.specs.Counts.{one-if}
 
+-- "65,536 + 32,768 × range bit + 4,096 × rights + frame"
+abbrev pub mappedPart : ℕ
+mappedPart = 65536
+
+abbrev pub rangeBitFactor : ℕ
+rangeBitFactor = 32768
+
+abbrev pub rightsFactor : ℕ
+rightsFactor = 4096
+
 -- "0 to 7 are allowed"
+abbrev pub largestRights : ℕ
+largestRights = 7
+
 unfoldable pub allowedRights : ℕ → Bool
-allowedRights r = leb r 7
+allowedRights r = leb r largestRights
 
 unfoldable pub pageWord : Bool → ℕ → ℕ → ℕ
-pageWord bit rights frame = 65536 + 32768 * one-if bit + 4096 * rights + frame
+pageWord bit rights frame = mappedPart + rangeBitFactor * one-if bit + rightsFactor * rights + frame
 
 -- what a word says; range bit, rights and frame are those of a mapped page
 unfoldable pub mapped : ℕ → Bool
-mapped w = eqb (w / 65536) 1
+mapped w = eqb (w / mappedPart) 1
 
 unfoldable pub rangeBit : ℕ → Bool
-rangeBit w = eqb (w / 32768 % 2) 1
+rangeBit w = eqb (w / rangeBitFactor % 2) 1
 
 unfoldable pub rightsIn : ℕ → ℕ
-rightsIn w = w / 4096 % 8
+rightsIn w = w / rightsFactor % (largestRights + 1)
 
 unfoldable pub frameIn : ℕ → ℕ
-frameIn w = w % 4096
+frameIn w = w % rightsFactor
 
 -- a word of the layout
 unfoldable pub isPageWord : ℕ → Bool

@@ -4,8 +4,23 @@ use mathlib.Core.Bool.{true}
 use mathlib.Core.List.{List, [], _∷_, _++_}
 use Prim.Native.Nat.{ℕ, suc, _+_, _-_, _^_, _≤_, _<_}
 use lib.ListN.{length, getD, replicate}
+use Rattle.words.specs.Sizes.{wordBits}
 use Rattle.words.specs.Wrapping.{wrapAdd}
 use Rattle.runs.specs.PageWords.{mapped, rangeBit, rightsIn, frameIn, isPageWord}
+
+-- "the longest runs of at least 8 pages"
+abbrev pub smallestRange : ℕ
+smallestRange = 8
+
+-- "128 entries of four words for each space"
+abbrev pub rangesInSpace : ℕ
+rangesInSpace = 128
+
+abbrev pub wordsInRange : ℕ
+wordsInRange = 4
+
+abbrev pub rangeWordsInSpace : ℕ
+rangeWordsInSpace = 512
 
 -- "A run is consecutive mapped pages with consecutive frames and equal rights": pages x up to y, y left out
 pub record Run (ws : List ℕ) (x y : ℕ) : Type 0 where
@@ -25,21 +40,21 @@ pub record InRange (ws : List ℕ) (p : ℕ) : Type 0 where
   pub first : ℕ
   pub end : ℕ
   pub longest : Longest ws first end
-  pub eight : first + 8 ≤ end
+  pub eight : first + smallestRange ≤ end
   pub from : first ≤ p
   pub to : p < end
 
 -- "OFFSET is a 32-bit word: frame = page + OFFSET modulo 4,294,967,296": so o gives the frame, and r the rights, of each page from x up to y
 pub record Gives (ws : List ℕ) (x y o r : ℕ) : Type 0 where
-  pub word : o < 2 ^ 32
-  pub frame : (p : ℕ) → x ≤ p → p < y → frameIn (getD ws p 0) ≡ wrapAdd 32 p o
+  pub word : o < 2 ^ wordBits
+  pub frame : (p : ℕ) → x ≤ p → p < y → frameIn (getD ws p 0) ≡ wrapAdd wordBits p o
   pub rights : (p : ℕ) → x ≤ p → p < y → rightsIn (getD ws p 0) ≡ r
 
 -- "128 entries of four words for each space: BASE, LIMIT, OFFSET, rights. LIMIT is not covered." "Entries ascend by BASE":
 -- each entry is a longest run of at least 8 pages, and no BASE lies below a
 pub data Table (ws : List ℕ) : ℕ → List ℕ → Type 0 where
   nothing : {a : ℕ} → Table ws a []
-  entry : {a : ℕ} (x y o r : ℕ) {more : List ℕ} → a ≤ x → x + 8 ≤ y → Longest ws x y → Gives ws x y o r → Table ws (suc x) more → Table ws a (x ∷ y ∷ o ∷ r ∷ more)
+  entry : {a : ℕ} (x y o r : ℕ) {more : List ℕ} → a ≤ x → x + smallestRange ≤ y → Longest ws x y → Gives ws x y o r → Table ws (suc x) more → Table ws a (x ∷ y ∷ o ∷ r ∷ more)
 
 -- an entry has BASE x and LIMIT y
 pub data Has (x y : ℕ) : List ℕ → Type 0 where
@@ -58,4 +73,4 @@ pub record RangesSound (ws rs : List ℕ) : Type 0 where
   pub split : rs ≡ used ++ replicate unused 0
   -- each used entry is a range, and each range has its entry
   pub listed : Table ws 0 used
-  pub all : (x y : ℕ) → Longest ws x y → x + 8 ≤ y → Has x y used
+  pub all : (x y : ℕ) → Longest ws x y → x + smallestRange ≤ y → Has x y used

@@ -6,8 +6,10 @@ use Prim.Native.Nat.{ℕ, _+_, _-_, _≤_, _<_}
 use lib.Dec.{leb}
 use lib.ListN.{length, getD, take, replicate}
 use lib.Seq.{sets}
+use Rattle.words.specs.Sizes.{pagesInSpace}
 use Rattle.words.specs.Tables.{part}
-use Rattle.runs.specs.PageWords.{mapped, rangeBit, frameIn, isPageWord}
+use Rattle.runs.specs.PageWords.{rightsFactor, mapped, rangeBit, frameIn, isPageWord}
+use Rattle.runs.specs.Runs.{smallestRange, wordsInRange}
 use Rattle.runs.specs.Walk.{bitWord, entryOf, ended}
 
 -- a test that decides a statement
@@ -19,13 +21,13 @@ pub record Decides (r : Bool) (P : Type 0) : Type 0 where
 
 -- k pages from page i on are unmapped, with the word 0
 pub record Empty (ws : List ℕ) (i k : ℕ) : Type 0 where
-  pub room : i + k ≤ 1024
+  pub room : i + k ≤ pagesInSpace
   pub zero : (q : ℕ) → i ≤ q → q < i + k → getD ws q 0 ≡ 0
 
 -- k pages from page i on have the words v + 1, v + 2, ..: where v is a mapped word, they extend its run
 pub record Onward (ws : List ℕ) (i v k : ℕ) : Type 0 where
-  pub room : i + k ≤ 1024
-  pub frames : frameIn v + k ≤ 4095
+  pub room : i + k ≤ pagesInSpace
+  pub frames : frameIn v + k < rightsFactor
   pub next : (j : ℕ) → j < k → getD ws (i + j) 0 ≡ v + (j + 1)
 
 -- a stretch of pages from page i on, after word w, and how many of them are mapped
@@ -54,14 +56,14 @@ markedPages on n = elim on [ true ↦ 0 | false ↦ n ]
 pub record EndedRun (xs rs : List ℕ) (on : Bool) (at b n v r : ℕ) (xs′ rs′ : List ℕ) : Type 0 where
   pub place : r ≡ at + length (ended on b n v)
   pub table : rs′ ≡ sets rs at (ended on b n v)
-  pub pages : Marked (leb 8 n) xs (b - n) (markedPages on n) xs′
+  pub pages : Marked (leb smallestRange n) xs (b - n) (markedPages on n) xs′
 
 -- Checking
 
 -- where the run of n pages ends before page b, at word v: the range bit of its last page is right, and so is the entry at place `at`
 pub record EndFits (rs : List ℕ) (on : Bool) (at b n v : ℕ) : Type 0 where
-  pub bit : on ≡ false → rangeBit v ≡ leb 8 n
-  pub entry : on ≡ false → 8 ≤ n → part at 4 rs ≡ entryOf b n v
+  pub bit : on ≡ false → rangeBit v ≡ leb smallestRange n
+  pub entry : on ≡ false → smallestRange ≤ n → part at wordsInRange rs ≡ entryOf b n v
 
 -- word w after word v is of the layout, and if mapped has the range bit of v where it extends the run
 pub record WordFits (on : Bool) (v w : ℕ) : Type 0 where

@@ -5,8 +5,10 @@ use Prim.Native.Nat.{ℕ, zero, suc, _+_, _-_}
 use lib.Dec.{leb, eqb}
 use lib.ListN.{length, getD, replicate}
 use Rattle.words.specs.Counts.{one-if}
+use Rattle.words.specs.Sizes.{wordBits}
 use Rattle.words.specs.Wrapping.{wrapSub}
 use Rattle.runs.specs.PageWords.{pageWord, mapped, rightsIn, frameIn}
+use Rattle.runs.specs.Runs.{smallestRange, rangeWordsInSpace}
 
 -- "consecutive mapped pages with consecutive frames and equal rights": word w, of the next page, extends the run of word v
 unfoldable pub joins : ℕ → ℕ → Bool
@@ -42,7 +44,7 @@ bitWord b w = elim (mapped w) [ true ↦ pageWord b (rightsIn w) (frameIn w) | f
 -- the words ws with their range bits, where the running length is n at the word v before them
 unfoldable pub bitsFrom : ℕ → ℕ → List ℕ → List ℕ
 bitsFrom n v [] = []
-bitsFrom n v (w ∷ ws) = bitWord (leb 8 (goesOn n v w + runAfter w ws)) w ∷ bitsFrom (goesOn n v w) w ws
+bitsFrom n v (w ∷ ws) = bitWord (leb smallestRange (goesOn n v w + runAfter w ws)) w ∷ bitsFrom (goesOn n v w) w ws
 
 -- "the range bit marks their pages"
 unfoldable pub withBits : List ℕ → List ℕ
@@ -50,11 +52,11 @@ withBits ws = bitsFrom 0 0 ws
 
 -- "BASE, LIMIT, OFFSET, rights": the entry of the run of n pages that ends before page b, at word v
 unfoldable pub entryOf : ℕ → ℕ → ℕ → List ℕ
-entryOf b n v = (b - n) ∷ b ∷ wrapSub 32 (frameIn v) (b - 1) ∷ rightsIn v ∷ []
+entryOf b n v = (b - n) ∷ b ∷ wrapSub wordBits (frameIn v) (b - 1) ∷ rightsIn v ∷ []
 
 -- "longest runs of at least 8 pages": what is listed before page b, an entry where a run ends there and is long enough
 unfoldable pub ended : Bool → ℕ → ℕ → ℕ → List ℕ
-ended on b n v = elim on [ true ↦ [] | false ↦ elim (leb 8 n) [ true ↦ entryOf b n v | false ↦ [] ] ]
+ended on b n v = elim on [ true ↦ [] | false ↦ elim (leb smallestRange n) [ true ↦ entryOf b n v | false ↦ [] ] ]
 
 -- the entries of the runs that end at or after page b, where the running length is n at the word v before it
 unfoldable pub entriesFrom : ℕ → ℕ → ℕ → List ℕ → List ℕ
@@ -66,7 +68,7 @@ entries ws = entriesFrom 0 0 0 ws
 
 -- "128 entries of four words for each space"; "unused ones are zero"
 unfoldable pub rangeWords : List ℕ → List ℕ
-rangeWords ws = entries ws ++ replicate (512 - length (entries ws)) 0
+rangeWords ws = entries ws ++ replicate (rangeWordsInSpace - length (entries ws)) 0
 
 -- two lists are the same
 unfoldable pub same : List ℕ → List ℕ → Bool

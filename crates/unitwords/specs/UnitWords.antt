@@ -6,33 +6,52 @@ use Rattle.words.specs.Tables.{tabulate}
 use Rattle.history.specs.declared.PageEntry.{PageEntry}
 use Rattle.history.specs.declared.RangeEntry.{RangeEntry}
 use Rattle.history.specs.declared.Unit.{Unit as TlbUnit}
+use Rattle.history.specs.Units.{pageEntries, rangeEntries}
+
+-- 64 entries of five words, 32 of six, and three words
+abbrev pub unitWords : ℕ
+unitWords = 515
+
+abbrev pub wordsInPageEntry : ℕ
+wordsInPageEntry = 5
+
+abbrev pub wordsInRangeEntry : ℕ
+wordsInRangeEntry = 6
+
+-- where the range entries begin
+abbrev pub rangesFrom : ℕ
+rangesFrom = 320
+
+-- where the last used range entry stands
+abbrev pub lastAt : ℕ
+lastAt = 512
 
 -- page entry k is five words from word 5 k on
 unfoldable pub pageAt : List ℕ → ℕ → PageEntry
 pageAt ws k =
     record {
-      valid = getD ws (5 * k) 0;
-      space = getD ws (5 * k + 1) 0;
-      page = getD ws (5 * k + 2) 0;
-      frame = getD ws (5 * k + 3) 0;
-      rights = getD ws (5 * k + 4) 0;
+      valid = getD ws (wordsInPageEntry * k) 0;
+      space = getD ws (wordsInPageEntry * k + 1) 0;
+      page = getD ws (wordsInPageEntry * k + 2) 0;
+      frame = getD ws (wordsInPageEntry * k + 3) 0;
+      rights = getD ws (wordsInPageEntry * k + 4) 0;
     }
 
 -- range entry k is six words from word 320 + 6 k on
 unfoldable pub rangeAt : List ℕ → ℕ → RangeEntry
 rangeAt ws k =
     record {
-      valid = getD ws (320 + 6 * k) 0;
-      space = getD ws (320 + 6 * k + 1) 0;
-      base = getD ws (320 + 6 * k + 2) 0;
-      limit = getD ws (320 + 6 * k + 3) 0;
-      offset = getD ws (320 + 6 * k + 4) 0;
-      rights = getD ws (320 + 6 * k + 5) 0;
+      valid = getD ws (rangesFrom + wordsInRangeEntry * k) 0;
+      space = getD ws (rangesFrom + wordsInRangeEntry * k + 1) 0;
+      base = getD ws (rangesFrom + wordsInRangeEntry * k + 2) 0;
+      limit = getD ws (rangesFrom + wordsInRangeEntry * k + 3) 0;
+      offset = getD ws (rangesFrom + wordsInRangeEntry * k + 4) 0;
+      rights = getD ws (rangesFrom + wordsInRangeEntry * k + 5) 0;
     }
 
 -- the unit that 515 words are
 unfoldable pub unitOf : List ℕ → TlbUnit
-unitOf ws = record { pages = tabulate 64 (pageAt ws); ranges = tabulate 32 (rangeAt ws); last = getD ws 512 0; next = getD ws 513 0; seen = getD ws 514 0 }
+unitOf ws = record { pages = tabulate pageEntries (pageAt ws); ranges = tabulate rangeEntries (rangeAt ws); last = getD ws lastAt 0; next = getD ws (lastAt + 1) 0; seen = getD ws (lastAt + 2) 0 }
 
 abbrev pub pageWords : PageEntry → List ℕ
 pageWords e = e .valid ∷ e .space ∷ e .page ∷ e .frame ∷ e .rights ∷ []

@@ -4,6 +4,7 @@ use mathlib.Core.Option.{Option, none, some}
 use Prim.Native.Nat.{ℕ, _+_, _*_, _/_, _^_}
 use lib.Dec.{leb, eqb}
 use Rattle.words.specs.Searches.{allFrom, largest}
+use Rattle.blocks.specs.Blocks.{largestOrder}
 use Rattle.blocks.specs.FrameWords.{firstOf, otherFree}
 
 -- the first frame of the block of order k that holds frame f
@@ -16,7 +17,7 @@ around F free f k = leb (startOf k f + 2 ^ k) F && allFrom (2 ^ k) (startOf k f)
 
 -- the order of the largest wholly free block around f
 unfoldable pub freeOrder : ℕ → (ℕ → Bool) → ℕ → Option ℕ
-freeOrder F free f = largest 10 (around F free f)
+freeOrder F free f = largest largestOrder (around F free f)
 
 -- the word of a free frame f whose free block has the order given
 unfoldable pub orderWord : ℕ → Option ℕ → ℕ

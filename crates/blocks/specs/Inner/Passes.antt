@@ -10,8 +10,8 @@ use Rattle.words.specs.Counts.{one-if}
 use Rattle.words.specs.Searches.{anyFrom, largest}
 use Rattle.blocks.specs.declared.Block.{Block}
 use Rattle.blocks.specs.declared.Bound.{Bound}
-use Rattle.blocks.specs.Blocks.{block, inBlock}
-use Rattle.blocks.specs.FrameWords.{ownersOf, freeIn, ownedIn, frameWord}
+use Rattle.blocks.specs.Blocks.{largestOrder, orders, block, inBlock}
+use Rattle.blocks.specs.FrameWords.{ownersOf, freeIn, ownedIn, firstOf, frameWord}
 use Rattle.blocks.specs.Owners.{cleared}
 use Rattle.blocks.specs.Inner.Around.{startOf, around}
 
@@ -19,7 +19,7 @@ use Rattle.blocks.specs.Inner.Around.{startOf, around}
 
 -- no wholly free block holds f and a frame below it
 pub record Edge (F : ℕ) (free : ℕ → Bool) (f : ℕ) : Type 0 where
-  pub starts : (m : ℕ) → m ≤ 10 → around F free f m ≡ true → startOf m f ≡ f
+  pub starts : (m : ℕ) → m ≤ largestOrder → around F free f m ≡ true → startOf m f ≡ f
 
 -- the words from f up to r are those that the owners ask for, and every other is as it was; a free block starts at r or none holds it
 pub record SettledTo (F : ℕ) (b : List ℕ) (f r : ℕ) (b′ : List ℕ) : Type 0 where
@@ -46,7 +46,7 @@ pub record HeldTo (b : List ℕ) (s e r : ℕ) : Type 0 where
 
 -- the largest order, at most 10, whose size is at most the pages left
 unfoldable pub orderWithin : ℕ → Option ℕ
-orderWithin left = largest 10 (λ i. leb (2 ^ i) left)
+orderWithin left = largest largestOrder (λ i. leb (2 ^ i) left)
 
 -- from top up to limit, then from below top down to 0
 unfoldable pub orderAt : ℕ → ℕ → ℕ → ℕ
@@ -57,7 +57,7 @@ least a b = elim (ltb a b) [ true ↦ a | false ↦ b ]
 
 -- a block, or order 11 for none
 unfoldable pub asBlock : Option Block → Block
-asBlock none = block 11 0
+asBlock none = block orders 0
 asBlock (some b) = b
 
 -- where the scan for order k starts
@@ -72,7 +72,7 @@ boundAfter x b left = elim (orderWithin left) [ none ↦ x | some w ↦ elim (lt
 
 -- the upper halves of orders i up to j, j left out, of the block at s have their first words
 pub record Halved (b : List ℕ) (s i j : ℕ) (b′ : List ℕ) : Type 0 where
-  pub halves : (m : ℕ) → i ≤ m → m < j → getD b′ (s + 2 ^ m) 0 ≡ 16384 + m
+  pub halves : (m : ℕ) → i ≤ m → m < j → getD b′ (s + 2 ^ m) 0 ≡ firstOf m
   pub others : (g : ℕ) → ((m : ℕ) → i ≤ m → m < j → g ≡ s + 2 ^ m → ⊥) → getD b′ g 0 ≡ getD b g 0
 
 -- the block of order i at s begins a free block that the words say
@@ -80,7 +80,7 @@ pub record Begins (F : ℕ) (b : List ℕ) (s i : ℕ) : Type 0 where
   pub inside : s < F
   pub top : ℕ
   pub below : i ≤ top
-  pub first : getD b s 0 ≡ 16384 + top
+  pub first : getD b s 0 ≡ firstOf top
 
 -- the owners when the block of order i at s is given to o, o + 1, ..
 unfoldable pub handed : (ℕ → ℕ) → ℕ → ℕ → ℕ → ℕ → ℕ
