@@ -14,7 +14,7 @@ use Rattle.words.specs.Searches.{allFrom}
 use Rattle.words.proofs.Cases.{by-test, by-dec, true-false, and-true, true-and}
 use Rattle.words.proofs.SearchLaws.{allFrom-at, at-allFrom}
 use Rattle.blocks.specs.FrameWords.{isPoolSize}
-use Rattle.control.specs.Control.{poolSize, removals, openMask, placeOf, recordSpace, recordFirst, recordCount, withRemovals, withMask, withRecord, used, recordOk, recordFits, lawfulControl, isOpen, opened, closedMask, appended, freshControl}
+use Rattle.control.specs.Control.{poolSize, removals, openMask, placeOf, recordSpace, recordFirst, recordCount, withRemovals, withMask, withRecord, used, recordOk, recordFits, lawfulControl, isOpen, openedMask, closedMask, appended, freshControl}
 use Rattle.control.proofs.MaskLaws.{set-here, set-other, set-fits, cleared-other}
 
 -- the places lie inside the buffer, behind the fields before them, and apart from each other
@@ -407,20 +407,20 @@ mask-lawful c m len t h =
     })
 
 module _ (c : List ℕ) (s : ℕ) (len : length c ≡ 195) (shut : isOpen (openMask c) s ≡ false) where
-  pub opened-mask : openMask (opened c s) ≡ openMask c + 2 ^ s
-  unfolding opened
+  pub opened-mask : openMask (openedMask c s) ≡ openMask c + 2 ^ s
+  unfolding openedMask
   opened-mask = mask-written c (openMask c + 2 ^ s) len
 
-  pub opened-lawful : lawfulControl c ≡ true → s ≤ 3 → lawfulControl (opened c s) ≡ true
-  unfolding opened
+  pub opened-lawful : lawfulControl c ≡ true → s ≤ 3 → lawfulControl (openedMask c s) ≡ true
+  unfolding openedMask
   opened-lawful t h =
       let m = lawful-says c t .mask in
       mask-lawful c (openMask c + 2 ^ s) len t (omega (arith, set-fits (openMask c) s shut 4 (omega arith) (omega arith)))
 
-  pub opened-here : isOpen (openMask (opened c s)) s ≡ true
+  pub opened-here : isOpen (openMask (openedMask c s)) s ≡ true
   opened-here = rw opened-mask (set-here (openMask c) s shut)
 
-  pub opened-other : (t : ℕ) → (t ≡ s → ⊥) → isOpen (openMask (opened c s)) t ≡ isOpen (openMask c) t
+  pub opened-other : (t : ℕ) → (t ≡ s → ⊥) → isOpen (openMask (openedMask c s)) t ≡ isOpen (openMask c) t
   opened-other t ne = rw opened-mask (set-other (openMask c) s shut t ne)
 
 module _ (c : List ℕ) (s : ℕ) (len : length c ≡ 195) (is-open : isOpen (openMask c) s ≡ true) where

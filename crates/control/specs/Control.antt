@@ -86,8 +86,8 @@ lawfulControl c = isPoolSize (poolSize c) && (leb (openMask c) allOpen && allFro
 unfoldable pub isOpen : ℕ → ℕ → Bool
 isOpen mask s = eqb (mask / 2 ^ s % 2) 1
 
-unfoldable pub opened : List ℕ → ℕ → List ℕ
-opened c s = withMask c (openMask c + 2 ^ s)
+unfoldable pub openedMask : List ℕ → ℕ → List ℕ
+openedMask c s = withMask c (openMask c + 2 ^ s)
 
 unfoldable pub closedMask : List ℕ → ℕ → List ℕ
 closedMask c s = withMask c (openMask c - 2 ^ s)

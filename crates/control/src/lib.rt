@@ -3,7 +3,7 @@ ghost use mathlib.Core.Path.{_≡_};
 ghost use mathlib.Core.Bool.{true, false};
 ghost use Prim.Native.Nat.{_+_, _^_, _≤_, _<_};
 ghost use lib.ListN.{length};
-ghost use Rattle.control.specs.Control.{poolSize, removals, openMask, placeOf, recordSpace, recordFirst, recordCount, used, recordOk, recordFits, lawfulControl, isOpen, opened, closedMask, appended, freshControl};
+ghost use Rattle.control.specs.Control.{poolSize, removals, openMask, placeOf, recordSpace, recordFirst, recordCount, used, recordOk, recordFits, lawfulControl, isOpen, openedMask, closedMask, appended, freshControl};
 use runs::Page;
 
 const POOL: usize = 0;
@@ -197,7 +197,7 @@ pub fn open_space(control: &mut [u32], s: u32)
     requires { ⌜ s ≤ 3 ⌝ }
     requires { ⌜ openMask (now control) ≤ 15 ⌝ }
     requires { ⌜ isOpen (openMask (now control)) s ≡ false ⌝ }
-    ensures { λ _. ⌜ now (control .exit) ≡ opened (now (control .entry)) s ⌝ }
+    ensures { λ _. ⌜ now (control .exit) ≡ openedMask (now (control .entry)) s ⌝ }
 {
     let mask = open_mask(control);
     control[MASK] = mask + bit_of(s);

@@ -17,17 +17,17 @@ use Rattle.words.proofs.SearchLaws.{every-at, at-every}
 use Rattle.words.proofs.CountLaws.{count-ext, count-all, count-not, count-pairs}
 use Rattle.blocks.specs.FrameWords.{isOwner, ownerOf, ownersOf, freeOf, freeIn, ownedIn}
 use Rattle.runs.specs.PageWords.{mapped, frameIn}
-use Rattle.layout.specs.Pointing.{holds, pageOk, frameOk, pointed}
+use Rattle.layout.specs.Pointing.{mapsTo, pageOk, frameOk, pointed}
 
 -- one word
 
-pub at-holds : (w f : ℕ) → mapped w ≡ true → frameIn w ≡ f → holds w f ≡ true
-unfolding holds
-at-holds w f m e = true-and _ _ m (eq-eqb _ _ e)
+pub at-maps-to : (w f : ℕ) → mapped w ≡ true → frameIn w ≡ f → mapsTo w f ≡ true
+unfolding mapsTo
+at-maps-to w f m e = true-and _ _ m (eq-eqb _ _ e)
 
-pub holds-at : (w f : ℕ) → holds w f ≡ true → (mapped w ≡ true) × (frameIn w ≡ f)
-unfolding holds
-holds-at w f t = let a = and-true _ _ t in (a .0, eqb-true _ _ (a .1))
+pub maps-to-at : (w f : ℕ) → mapsTo w f ≡ true → (mapped w ≡ true) × (frameIn w ≡ f)
+unfolding mapsTo
+maps-to-at w f t = let a = and-true _ _ t in (a .0, eqb-true _ _ (a .1))
 
 pub page-unmapped : (fs : List ℕ) (F i w : ℕ) → mapped w ≡ false → true ≡ pageOk fs F i w
 unfolding pageOk
@@ -57,7 +57,7 @@ frame-free ps F f v no-one =
     (λ o. let b = owner-test v o in absurd (no-one (b .0) (b .1)))
     (λ o. by-test (ltb f F) (λ t. rw (t, o, frameOk)) (λ t. rw (t, frameOk)))
 
-frame-held : (ps : List ℕ) (F f v : ℕ) → f < F → isOwner v ≡ true → holds (getD ps (v - 1) 0) f ≡ frameOk ps F f v
+frame-held : (ps : List ℕ) (F f v : ℕ) → f < F → isOwner v ≡ true → mapsTo (getD ps (v - 1) 0) f ≡ frameOk ps F f v
 unfolding frameOk
 frame-held ps F f v h o = rw (lt-ltb f F h, o, frameOk)
 
@@ -94,7 +94,7 @@ module _ (fs ps : List ℕ) (F : ℕ) (t : pointed fs ps F ≡ true) (frames : l
   frame-at f h h′ o =
       let a = and-true (every (pageOk fs F) 0 ps) (every (frameOk ps F) 0 fs) t in
       let b : frameOk ps F f (getD fs f 0) ≡ true = rw (zero-add f) at (every-at (frameOk ps F) 0 fs 0 (a .1) f (omega arith)) in
-      holds-at _ _ (frame-held ps F f (getD fs f 0) h o ∙ b)
+      maps-to-at _ _ (frame-held ps F f (getD fs f 0) h o ∙ b)
 
   -- no two pages hold one frame
   pub no-two : (i j : ℕ) → i < 4096 → j < 4096 → mapped (getD ps i 0) ≡ true → mapped (getD ps j 0) ≡ true → frameIn (getD ps i 0) ≡ frameIn (getD ps j 0) → i ≡ j
@@ -106,20 +106,20 @@ module _ (fs ps : List ℕ) (F : ℕ) (t : pointed fs ps F ≡ true) (frames : l
 
   module _ (small : F ≤ 4096) where
     -- the owner of a frame below F is the place that is mapped with it
-    pub place-owns : (i f : ℕ) → i < 4096 → holds (getD ps i 0) f ≡ true → ownersOf fs f ≡ i + 1
+    pub place-owns : (i f : ℕ) → i < 4096 → mapsTo (getD ps i 0) f ≡ true → ownersOf fs f ≡ i + 1
     unfolding ownersOf
     place-owns i f h e =
-        let a = holds-at (getD ps i 0) f e in
+        let a = maps-to-at (getD ps i 0) f e in
         let b : getD fs f 0 ≡ i + 1 = rw (a .1) at (page-at i h (a .0) .1) in
         rw b (owner-low (i + 1) (omega arith))
 
-    pub owner-holds : (i f : ℕ) → i < 4096 → f < F → ownersOf fs f ≡ i + 1 → holds (getD ps i 0) f ≡ true
+    pub owner-holds : (i f : ℕ) → i < 4096 → f < F → ownersOf fs f ≡ i + 1 → mapsTo (getD ps i 0) f ≡ true
     unfolding ownersOf
     owner-holds i f hi h e =
         let w : getD fs f 0 ≡ i + 1 = owner-word (getD fs f 0) i e in
         let p : getD fs f 0 - 1 ≡ i = omega arith in
         let r = frame-at f h (omega arith) (rw w (test-owner (i + 1) (omega arith) (omega arith))) in
-        at-holds (getD ps i 0) f (rw p at (r .0)) (rw p at (r .1))
+        at-maps-to (getD ps i 0) f (rw p at (r .0)) (rw p at (r .1))
 
     -- as many pages are mapped as frames are held
     pub mapped-held : count 4096 (λ i. mapped (getD ps i 0)) ≡ count F (ownedIn fs)
@@ -146,14 +146,14 @@ module _ (fs ps : List ℕ) (F : ℕ) (t : pointed fs ps F ≡ true) (frames : l
 
 -- words point at each other as soon as a place is mapped with a frame exactly where it is the owner of that frame
 module _ (fs ps : List ℕ) (F : ℕ) (frames : length fs ≡ 4096) (pages : length ps ≡ 4096)
-    (there : (i f : ℕ) → i < 4096 → holds (getD ps i 0) f ≡ true → (f < F) × (ownersOf fs f ≡ i + 1))
-    (back : (i f : ℕ) → i < 4096 → f < F → ownersOf fs f ≡ i + 1 → holds (getD ps i 0) f ≡ true) where
+    (there : (i f : ℕ) → i < 4096 → mapsTo (getD ps i 0) f ≡ true → (f < F) × (ownersOf fs f ≡ i + 1))
+    (back : (i f : ℕ) → i < 4096 → f < F → ownersOf fs f ≡ i + 1 → mapsTo (getD ps i 0) f ≡ true) where
   page-passes : (i : ℕ) → i < 4096 → pageOk fs F i (getD ps i 0) ≡ true
   unfolding ownersOf
   page-passes i h =
       by-test (mapped (getD ps i 0))
       (λ m.
-      let r = there i (frameIn (getD ps i 0)) h (at-holds (getD ps i 0) (frameIn (getD ps i 0)) m refl) in
+      let r = there i (frameIn (getD ps i 0)) h (at-maps-to (getD ps i 0) (frameIn (getD ps i 0)) m refl) in
       sym (page-names fs F i (getD ps i 0) m (r .0)) ∙ eq-eqb _ _ (owner-word _ i (r .1)))
       (λ m. sym (page-unmapped fs F i (getD ps i 0) m))
 
@@ -180,7 +180,7 @@ module _ (fs ps : List ℕ) (F : ℕ) (frames : length fs ≡ 4096) (pages : len
 module _ (fs ps : List ℕ) (F : ℕ) (frames : length fs ≡ 4096) (pages : length ps ≡ 4096) (small : F ≤ 4096) where
   -- the word of frame f names a page that is mapped with it
   named : ℕ → Bool
-  named f = isOwner (getD fs f 0) && holds (getD ps (getD fs f 0 - 1) 0) f
+  named f = isOwner (getD fs f 0) && mapsTo (getD ps (getD fs f 0 - 1) 0) f
 
   module _ (t : every (pageOk fs F) 0 ps ≡ true) where
     named-mapped : count 4096 (λ i. mapped (getD ps i 0)) ≡ count F named
@@ -193,12 +193,12 @@ module _ (fs ps : List ℕ) (F : ℕ) (frames : length fs ≡ 4096) (pages : len
               let n = s .1 in
               let back : getD fs (frameIn (getD ps i 0)) 0 - 1 ≡ i = omega arith in
               let owns : isOwner (getD fs (frameIn (getD ps i 0)) 0) ≡ true = rw n (test-owner (i + 1) (omega arith) (omega arith)) in
-              let has : holds (getD ps (getD fs (frameIn (getD ps i 0)) 0 - 1) 0) (frameIn (getD ps i 0)) ≡ true = rw back (at-holds (getD ps i 0) (frameIn (getD ps i 0)) m refl) in
+              let has : mapsTo (getD ps (getD fs (frameIn (getD ps i 0)) 0 - 1) 0) (frameIn (getD ps i 0)) ≡ true = rw back (at-maps-to (getD ps i 0) (frameIn (getD ps i 0)) m refl) in
               (s .0, true-and _ _ owns has, back);
           back = λ f h o.
               let a = and-true _ _ o in
               let b = owner-test (getD fs f 0) (a .0) in
-              let s = holds-at _ _ (a .1) in
+              let s = maps-to-at _ _ (a .1) in
               (omega (arith, b .0, b .1), s .0, s .1);
         })
 

@@ -10,8 +10,8 @@ use Rattle.blocks.specs.FrameWords.{isOwner}
 use Rattle.runs.specs.PageWords.{mapped, frameIn}
 
 -- the page of this word is mapped, with frame f
-unfoldable pub holds : ℕ → ℕ → Bool
-holds w f = mapped w && eqb (frameIn w) f
+unfoldable pub mapsTo : ℕ → ℕ → Bool
+mapsTo w f = mapped w && eqb (frameIn w) f
 
 -- page word w at place i: where it is mapped, its frame is below F and the word of that frame names place i
 unfoldable pub pageOk : List ℕ → ℕ → ℕ → ℕ → Bool
@@ -19,7 +19,7 @@ pageOk fs F i w = elim (mapped w) [ true ↦ ltb (frameIn w) F && eqb (getD fs (
 
 -- frame word v at place f: where f is below F and v names a page, that page is mapped with frame f
 unfoldable pub frameOk : List ℕ → ℕ → ℕ → ℕ → Bool
-frameOk ps F f v = elim (ltb f F && isOwner v) [ true ↦ holds (getD ps (v - 1) 0) f | false ↦ true ]
+frameOk ps F f v = elim (ltb f F && isOwner v) [ true ↦ mapsTo (getD ps (v - 1) 0) f | false ↦ true ]
 
 unfoldable pub pointed : List ℕ → List ℕ → ℕ → Bool
 pointed fs ps F = every (pageOk fs F) 0 ps && every (frameOk ps F) 0 fs
