@@ -1,4 +1,4 @@
-// The frame pool's types. Definitions and laws stand in specs/ and proofs/; the code is the crate `frames`.
+// The frame pool's types. Definitions and laws stand in specs/ and proofs/; the code is in the crates `framewords`, `splitting`, `merging` and `frames`.
 
 // A frame number. A virtual page number never stands in its place.
 pub struct Frame(pub u32);
@@ -19,6 +19,12 @@ pub struct Bound {
 pub struct Chosen {
     pub block: Block,
     pub known: Bound,
+}
+
+// What the check of a buffer finds: whether its words are lawful, and where they are, how many frames are held.
+pub struct Judged {
+    pub lawful: bool,
+    pub held: u32,
 }
 
 // The calls on the pool, with their arguments; allocate takes as many frames as the list that it is lent has places.

@@ -1,11 +1,5 @@
 // The frame pool as it ships: set up, check, count, allocate and free over a lent buffer of 4,096 frame words.
 // Each call judges what it is lent. The functions of `unchecked` ask for that beforehand, and serve callers that have judged it themselves.
-mod buffer;
-mod checking;
-mod choosing;
-mod freeing;
-mod settling;
-mod taking;
 pub mod unchecked;
 
 ghost use mathlib.Core.Path.{_≡_};
@@ -13,14 +7,14 @@ ghost use mathlib.Core.List.{[]};
 ghost use Rattle.blocks.specs.declared.PoolCall.the-variants.{SetUp, Check, Count, Allocate, Free};
 ghost use Rattle.blocks.specs.FrameWords.{isPoolSize};
 ghost use Rattle.blocks.specs.Calls.{outcome, lent, inOwners, Called};
-use crate::checking::lawful;
-use crate::freeing::all_held;
-use crate::freeing::any_held;
-use crate::freeing::count_free;
-use crate::freeing::release;
-use crate::settling::fresh;
-use crate::taking::take_frames;
 use blocks::Reply;
+use framewords::owners::all_held;
+use framewords::owners::any_held;
+use framewords::owners::count_free;
+use merging::fresh;
+use merging::lawful;
+use merging::release;
+use splitting::take_frames;
 use words::Outcome;
 
 // The number, first and second value of an answer.

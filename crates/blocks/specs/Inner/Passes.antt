@@ -1,4 +1,4 @@
--- What the inner functions of `frames` promise, and nothing else does: each a step of a pass over the buffer, said of single words.
+-- What the inner functions of the pool promise, and nothing else does: each a step of a pass over the buffer, said of single words.
 use mathlib.Core.Path.{_≡_}
 use mathlib.Core.Bool.{Bool, true, false}
 use mathlib.Core.List.{List}

@@ -1,0 +1,64 @@
+use native.Mathlib.Omega.{arith}
+use Rattle.blocks.proofs.HeldLaws.{held-near, held-more}
+use borrow.Author.Needs.{needs}
+use Rattle.framewords.proofs.buffer.held_to.Statement.{statement}
+use Rattle.framewords.proofs.buffer.held_to.Tie as tie
+use Rattle.framewords.proofs.buffer.held_to.Reads as reads
+use Rattle.framewords.proofs.buffer.held_to.Lts as lts
+use Rattle.framewords.proofs.buffer.held_chunks.Reads as held-chunks-reads
+use Rattle.framewords.proofs.buffer.held_words.Reads as held-words-reads
+
+-- src/buffer.rt:139:8
+sub-if1 : tie.Need-sub-if1
+sub-if1 c = search needs
+
+-- src/buffer.rt:140:9
+held-words-requires : tie.Need-held-words-requires
+held-words-requires c κs = search needs
+
+-- src/buffer.rt:140:9
+returns : tie.Need-returns
+returns c = c .held-words .ensures
+
+-- src/buffer.rt:142:41
+add-held-words : tie.Need-add-held-words
+add-held-words c = search needs
+
+-- src/buffer.rt:142:9
+held-words-requires-2 : tie.Need-held-words-requires-2
+held-words-requires-2 c κs = search needs
+
+-- src/buffer.rt:143:15
+add-if2 : tie.Need-add-if2
+add-if2 c = search needs
+
+-- src/buffer.rt:144:9
+returns-2 : tie.Need-returns-2
+returns-2 c = (held-near _ _ _ _ _ (omega arith) (c .before .held-words2 .ensures .0), λ ne. c .before .held-words2 .ensures .1 (λ e. omega arith))
+
+-- src/buffer.rt:146:9
+held-chunks-requires : tie.Need-held-chunks-requires
+held-chunks-requires c κs = search needs
+
+-- src/buffer.rt:147:5
+held-words-requires-3 : tie.Need-held-words-requires-3
+held-words-requires-3 c κs = search needs
+
+-- src/buffer.rt:133:1
+returns-3 : tie.Need-returns-3
+returns-3 c = (held-more _ _ _ _ _ (held-near _ _ _ _ _ (omega arith) (c .before .before .before .held-words2 .ensures .0)) (held-more _ _ _ _ _ (c .before .held-chunks .ensures) (c .held-words3 .ensures .0)), c .held-words3 .ensures .1)
+
+pub held-to-spec : {M : Type 1} → statement M
+held-to-spec =
+    tie.close
+    (tie.spec
+    sub-if1
+    held-words-requires
+    returns
+    add-held-words
+    held-words-requires-2
+    add-if2
+    returns-2
+    held-chunks-requires
+    held-words-requires-3
+    returns-3)

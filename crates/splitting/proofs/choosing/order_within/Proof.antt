@@ -1,0 +1,53 @@
+use borrow.Author.Needs.{needs}
+use Rattle.words.proofs.PowerLaws.{double}
+use Rattle.splitting.proofs.choosing.order_within.Statement.{statement}
+use Rattle.splitting.proofs.choosing.order_within.Tie as tie
+use mathlib.Core.Path.{_≡_, refl, ap, _∙_}
+use Prim.Native.Nat.{ℕ, _≤_, _-_, _+_, _^_}
+use native.Mathlib.Omega.{arith}
+use Rattle.blocks.proofs.AroundLaws.{order-size}
+use Rattle.blocks.proofs.SearchedLaws.{order-up, order-top}
+
+abbrev Inv-loop : tie.InvT-loop
+Inv-loop left k₀ size₀ k size = (k ≤ 10) × ((size ≤ 1024) × ((size ≡ 2 ^ k) × (size ≤ left)))
+
+abbrev μ-loop : tie.MeasureT-loop
+μ-loop left k₀ size₀ k size = 10 - k
+
+-- src/choosing.rt:19:5
+loop-holds : tie.Need-loop-holds Inv-loop μ-loop
+loop-holds c = (omega arith, (omega arith, (refl, omega arith)))
+
+-- src/choosing.rt:20:21
+add-twice : tie.Need-add-twice Inv-loop μ-loop
+add-twice c = search needs
+
+-- src/choosing.rt:22:13
+returns : tie.Need-returns Inv-loop μ-loop
+returns c = order-up _ _ _ (c .before .before .loop .inv .1 .1 .0) (c .before .before .loop .inv .1 .1 .1) (c .if1 .taken) (omega arith)
+
+-- src/choosing.rt:25:9
+add-k : tie.Need-add-k Inv-loop μ-loop
+add-k c = search needs
+
+-- src/choosing.rt:19:5
+loop-less : tie.Need-loop-less Inv-loop μ-loop
+loop-less c = search needs
+
+-- src/choosing.rt:19:5
+loop-again : tie.Need-loop-again Inv-loop μ-loop
+loop-again c =
+    let k : ℕ = c .before .before .loop .k in
+    let size : ℕ = c .before .before .loop .size in
+    let d : size + size ≡ 2 ^ (k + 1) = ap (λ (x : ℕ). x + x) (c .before .before .loop .inv .1 .1 .0) ∙ double k in
+    let m : 2 ^ (k + 1) ≤ 1024 = order-size (k + 1) (omega arith) in
+    (omega arith, (omega arith, (d, omega arith)))
+
+-- src/choosing.rt:13:1
+returns-2 : tie.Need-returns-2 Inv-loop μ-loop
+returns-2 c = order-top _ _ _ (c .before .loop .inv .1 .1 .0) (c .before .loop .inv .1 .1 .1) (omega arith) (omega arith)
+
+pub order-within-spec : {M : Type 1} → statement M
+order-within-spec =
+    tie.close
+    (tie.spec Inv-loop μ-loop loop-holds add-twice returns add-k loop-less loop-again returns-2)

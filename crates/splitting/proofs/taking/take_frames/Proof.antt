@@ -1,0 +1,131 @@
+use borrow.Author.Needs.{needs}
+use mathlib.Core.Path.{_≡_, refl, sym, _∙_}
+use Prim.Native.Nat.{_-_}
+use native.Mathlib.Omega.{arith}
+use lib.Pow.{pow-pos}
+use lib.ListN.{length}
+use Rattle.blocks.specs.FrameWords.{freeIn}
+use Rattle.blocks.specs.Choice.{framesFor}
+use Rattle.blocks.proofs.WordLaws.{lawful-is}
+use Rattle.blocks.proofs.AllocateLaws.{Noted, noted-none, noted-more, noted-all}
+use Rattle.blocks.proofs.Published.{Going, going-start, next-placed, going-on, all-blocks, all-words, frames-fresh}
+use Rattle.splitting.proofs.taking.take_frames.Statement.{statement}
+use Rattle.splitting.proofs.taking.take_frames.Tie as tie
+
+abbrev Inv-loop : tie.InvT-loop
+Inv-loop frames₀ pool owner out₀ n done₀ blocks₀ known₀ frames out done blocks known =
+    (n ≡ length out₀) × ((length out ≡ n) × (Going pool frames₀ owner n frames done blocks known × Noted (framesFor pool (freeIn frames₀) n) done out))
+
+abbrev μ-loop : tie.MeasureT-loop
+μ-loop frames₀ pool owner out₀ n done₀ blocks₀ known₀ frames out done blocks known = n - done
+
+-- src/taking.rt:90:9
+nothing-known-requires : tie.Need-nothing-known-requires Inv-loop μ-loop
+nothing-known-requires c κs = search needs
+
+-- src/taking.rt:91:5
+loop-holds : tie.Need-loop-holds Inv-loop μ-loop
+loop-holds c = let p = c .before .before .before .pre in (refl, (refl, (going-start _ _ _ _ _ (p .0) (p .1 .0) (p .1 .1 .0) (p .1 .1 .1) (c .nothing-known .ensures), noted-none _ _)))
+
+-- src/taking.rt:92:54
+cast-take-block : tie.Need-cast-take-block Inv-loop μ-loop
+cast-take-block c = search needs
+
+-- src/taking.rt:92:46
+add-take-block : tie.Need-add-take-block Inv-loop μ-loop
+add-take-block c = search needs
+
+-- src/taking.rt:92:68
+sub-take-block : tie.Need-sub-take-block Inv-loop μ-loop
+sub-take-block c = search needs
+
+-- src/taking.rt:92:67
+cast-take-block-2 : tie.Need-cast-take-block-2 Inv-loop μ-loop
+cast-take-block-2 c = search needs
+
+-- src/taking.rt:92:13
+take-block-requires : tie.Need-take-block-requires Inv-loop μ-loop
+take-block-requires c κs = let s = c .before .before .loop .inv .1 .1 .0 in (s .lawful, (omega arith, (s .enough, (omega arith, (omega (arith, s .at-most), s .searched)))))
+
+-- src/taking.rt:95:20
+size-of-requires : tie.Need-size-of-requires Inv-loop μ-loop
+size-of-requires c κs = next-placed _ _ _ _ _ _ _ _ (c .before .before .before .before .before .before .before .loop .inv .1 .1 .0) (c .before .before .before .before .before .before .loop-test .taken) _ _ (c .before .before .before .before .take-block .ensures) .small
+
+-- src/taking.rt:95:20
+cast-size : tie.Need-cast-size Inv-loop μ-loop
+cast-size c = search needs
+
+-- src/taking.rt:96:29
+add-count-up : tie.Need-add-count-up Inv-loop μ-loop
+add-count-up c = let x = next-placed _ _ _ _ _ _ _ _ (c .before .before .before .before .before .before .before .before .before .loop .inv .1 .1 .0) (c .before .before .before .before .before .before .before .before .loop-test .taken) _ _ (c .before .before .before .before .before .before .take-block .ensures) in omega (arith, x .fits, c .before .size-of .ensures)
+
+-- src/taking.rt:96:9
+count-up-requires : tie.Need-count-up-requires Inv-loop μ-loop
+count-up-requires c κs =
+    let x = next-placed _ _ _ _ _ _ _ _ (c .before .before .before .before .before .before .before .before .before .loop .inv .1 .1 .0) (c .before .before .before .before .before .before .before .before .loop-test .taken) _ _ (c .before .before .before .before .before .before .take-block .ensures) in
+    let l = lawful-is _ _ (c .before .before .before .before .before .before .before .before .before .loop .inv .1 .1 .0 .lawful) in
+    let z = c .before .size-of .ensures in (omega (arith, x .fits, c .before .before .before .before .before .before .before .before .before .loop .inv .1 .0), (omega arith, omega (arith, x .inside, l .small)))
+
+-- src/taking.rt:98:9
+add-done : tie.Need-add-done Inv-loop μ-loop
+add-done c = let x = next-placed _ _ _ _ _ _ _ _ (c .before .before .before .before .before .before .before .before .before .before .before .before .before .loop .inv .1 .1 .0) (c .before .before .before .before .before .before .before .before .before .before .before .before .loop-test .taken) _ _ (c .before .before .before .before .before .before .before .before .before .before .take-block .ensures) in omega (arith, x .fits, c .before .before .before .before .before .size-of .ensures)
+
+-- src/taking.rt:99:9
+add-blocks : tie.Need-add-blocks Inv-loop μ-loop
+add-blocks c = omega (arith, c .before .before .before .before .before .before .before .before .before .before .before .before .before .loop .inv .1 .1 .0 .few)
+
+-- src/taking.rt:91:5
+loop-less : tie.Need-loop-less Inv-loop μ-loop
+loop-less c = let x = next-placed _ _ _ _ _ _ _ _ (c .before .before .before .before .before .before .before .before .before .before .before .before .before .loop .inv .1 .1 .0) (c .before .before .before .before .before .before .before .before .before .before .before .before .loop-test .taken) _ _ (c .before .before .before .before .before .before .before .before .before .before .take-block .ensures) in omega (arith, x .fits, c .before .before .before .before .before .size-of .ensures, pow-pos (c .before .before .before .before .before .before .before .before .before .before .take-block .result .block .order))
+
+-- src/taking.rt:91:5
+loop-again : tie.Need-loop-again Inv-loop μ-loop
+loop-again c =
+    let z = c .before .before .before .before .before .size-of .ensures in (
+      c .before .before .before .before .before .before .before .before .before .before .before .before .before .loop .inv .0,
+      (c .before .before .before .count-up .kept .0 ∙ c .before .before .before .before .before .before .before .before .before .before .before .before .before .loop .inv .1 .0, (going-on _ _ _ _ _ _ _ _ (c .before .before .before .before .before .before .before .before .before .before .before .before .before .loop .inv .1 .1 .0) (c .before .before .before .before .before .before .before .before .before .before .before .before .loop-test .taken) _ _ (c .before .before .before .before .before .before .before .before .before .before .take-block .ensures) _ z, noted-more _ _ _ _ _ _ _ z (next-placed _ _ _ _ _ _ _ _ (c .before .before .before .before .before .before .before .before .before .before .before .before .before .loop .inv .1 .1 .0) (c .before .before .before .before .before .before .before .before .before .before .before .before .loop-test .taken) _ _ (c .before .before .before .before .before .before .before .before .before .before .take-block .ensures) .frames) (c .before .before .before .count-up .ensures) (c .before .before .before .before .before .before .before .before .before .before .before .before .before .loop .inv .1 .1 .1))),
+    )
+
+-- src/taking.rt:80:1
+same-length : tie.Need-same-length Inv-loop μ-loop
+same-length c = lawful-is _ _ (c .before .loop .inv .1 .1 .0 .lawful) .len ∙ sym (lawful-is _ _ (c .before .before .before .before .before .pre .0) .len)
+
+-- src/taking.rt:80:1
+same-length-2 : tie.Need-same-length-2 Inv-loop μ-loop
+same-length-2 c = c .before .loop .inv .1 .0
+
+-- src/taking.rt:80:1
+returns : tie.Need-returns Inv-loop μ-loop
+returns c =
+    let s = c .before .loop .inv .1 .1 .0 in
+    let h = c .loop-test .left in
+    record {
+      blocks = all-blocks _ _ _ _ _ _ _ _ s h;
+      words = all-words _ _ _ _ _ _ _ _ s h;
+      frames = noted-all _ _ _ _ (frames-fresh _ _ _ (c .before .before .before .before .before .pre .1 .0) .many) (c .before .loop .inv .1 .0) h (c .before .loop .inv .1 .1 .1);
+    }
+
+pub take-frames-spec : {M : Type 1} → statement M
+take-frames-spec =
+    tie.close
+    (tie.spec
+    Inv-loop
+    μ-loop
+    nothing-known-requires
+    loop-holds
+    cast-take-block
+    add-take-block
+    sub-take-block
+    cast-take-block-2
+    take-block-requires
+    size-of-requires
+    cast-size
+    add-count-up
+    count-up-requires
+    add-done
+    add-blocks
+    loop-less
+    loop-again
+    same-length
+    same-length-2
+    returns)

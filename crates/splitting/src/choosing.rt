@@ -1,0 +1,128 @@
+// Choosing the block that a request takes.
+ghost use mathlib.Core.Path.{_≡_};
+ghost use mathlib.Core.Bool.{true};
+ghost use mathlib.Core.Option.{some};
+ghost use Prim.Native.Nat.{_≤_};
+ghost use Rattle.blocks.specs.FrameWords.{freeIn, lawful};
+ghost use Rattle.blocks.specs.Choice.{takeBlock};
+ghost use Rattle.blocks.specs.Taking.{Searched, nothingKnown};
+ghost use Rattle.blocks.specs.Inner.Passes.{orderWithin, orderAt, least, asBlock, scanFrom, boundAfter};
+use blocks::Block;
+use blocks::Bound;
+use blocks::Frame;
+use framewords::buffer::size_of;
+use framewords::buffer::start_of;
+
+// The largest order whose block has at most `left` frames.
+pub fn order_within(left: u32) -> u32
+    requires { ⌜ 1 ≤ left ⌝ }
+    ensures { λ r. ⌜ orderWithin left ≡ some r ⌝ }
+{
+    let mut k = 0;
+    let mut size = 1;
+    while k < 10 {
+        let twice = size + size;
+        if left < twice {
+            return k;
+        }
+        size = twice;
+        k += 1;
+    }
+    k
+}
+
+// The order that is tried after t others: from `top` up to `limit`, then from below `top` down to 0.
+fn order_at(limit: u32, top: u32, t: u32) -> u32
+    requires { ⌜ top ≤ limit ⌝ }
+    requires { ⌜ limit ≤ 10 ⌝ }
+    requires { ⌜ t ≤ limit ⌝ }
+    ensures { λ r. ⌜ r ≡ orderAt limit top t ⌝ }
+{
+    if top + t <= limit {
+        return top + t;
+    }
+    limit - t
+}
+
+fn least(a: u32, b: u32) -> u32
+    ensures { λ r. ⌜ r ≡ least a b ⌝ }
+{
+    if a < b {
+        return a;
+    }
+    b
+}
+
+// The frame from which the scan for order k starts.
+fn scan_from(known: Bound, k: u32) -> Frame
+    ensures { λ r. ⌜ r .0 ≡ scanFrom known k ⌝ }
+{
+    if k == known.limit {
+        return known.from;
+    }
+    Frame(0)
+}
+
+// The block that is taken for `left` pages, where earlier searches have shown `known`; order 11 says that there is none.
+pub fn choose(frames: &[u32], pool: u32, left: u32, known: Bound) -> Block
+    requires { ⌜ lawful pool (now frames) ≡ true ⌝ }
+    requires { ⌜ 1 ≤ left ⌝ }
+    requires { ⌜ Searched pool (freeIn (now frames)) known ⌝ }
+    ensures { λ r. ⌜ r ≡ asBlock (takeBlock pool (freeIn (now (frames .entry))) left) ⌝ }
+{
+    let limit = known.limit;
+    let within = order_within(left);
+    let top = least(within, limit);
+    let chosen = 'search: loop {
+        for t in 0..limit + 1 {
+            let k = order_at(limit, top, t);
+            let from = scan_from(known, k);
+            let size = size_of(k);
+            // A block of order k starts only at a multiple of its size.
+            let first = start_of(from, k);
+            let mut f = first.0;
+            while f < pool {
+                if frames[f as usize] == 16384 + k {
+                    let order = least(k, top);
+                    break 'search Block {
+                        start: Frame(f),
+                        order: order,
+                    };
+                }
+                f += size;
+            }
+        }
+        break Block {
+            start: Frame(0),
+            order: 11,
+        };
+    };
+    chosen
+}
+
+// What is known before the first search.
+pub fn nothing_known() -> Bound
+    ensures { λ r. ⌜ r ≡ nothingKnown ⌝ }
+{
+    Bound {
+        limit: 10,
+        from: Frame(0),
+    }
+}
+
+// What is known once block `b` was taken for `left` pages.
+pub fn bound_after(known: Bound, b: Block, left: u32) -> Bound
+    requires { ⌜ 1 ≤ left ⌝ }
+    ensures { λ r. ⌜ r ≡ boundAfter known b left ⌝ }
+{
+    let within = order_within(left);
+    let order = b.order;
+    if order < within {
+        let start = b.start;
+        return Bound {
+            limit: order,
+            from: start,
+        };
+    }
+    known
+}
