@@ -27,46 +27,46 @@ use Rattle.blocks.proofs.AroundLaws.{finer, coarser, in-block, block-in
 use Rattle.blocks.proofs.FreeBlockLaws.{BlockAt, free-block-at, at-free-block, in-block-at, free-block-ext}
 
 module _ (F : ℕ) (free : ℕ → Bool) where
+  -- "lowest start": no free block of the order starts lower
+  pub lowest-start : (k : ℕ) → First F 0 (freeBlock F free k) (lowest F free k)
+  unfolding lowest
+  lowest-start k = firstFrom-is F 0 (freeBlock F free k)
+
+  -- "the smallest such order": no order from i up to it has a free block
+  pub smallest-order : (i : ℕ) → First (11 - i) i (λ j. is-some (lowest F free j)) (serving F free i)
+  unfolding serving
+  smallest-order i = firstFrom-is (11 - i) i (λ j. is-some (lowest F free j))
+
   -- what the searches find
   pub lowest-at : (k s : ℕ) → lowest F free k ≡ some s → BlockAt F free k s
-  unfolding lowest
-  lowest-at k s e = go (firstFrom F 0 (freeBlock F free k)) e (firstFrom-is F 0 (freeBlock F free k))
+  lowest-at k s e = go (lowest F free k) e (lowest-start k)
     where
       go : (o : Option ℕ) → o ≡ some s → First F 0 (freeBlock F free k) o → BlockAt F free k s
       go o e (found x lo hi t m) = let xs : x ≡ s = cc in rw xs at (free-block-at F free k x t)
       go o e (missing m) = let z : _≡_ {A = ℕ} 0 1 = cc in absurd (omega arith)
 
   pub at-lowest : (k s : ℕ) → BlockAt F free k s → (t : ℕ) × (lowest F free k ≡ some t)
-  unfolding lowest
-  at-lowest k s b = go (firstFrom F 0 (freeBlock F free k)) refl (firstFrom-is F 0 (freeBlock F free k))
+  at-lowest k s b = go (lowest F free k) refl (lowest-start k)
     where
-      go : (o : Option ℕ) → firstFrom F 0 (freeBlock F free k) ≡ o → First F 0 (freeBlock F free k) o → (t : ℕ) × (firstFrom F 0 (freeBlock F free k) ≡ some t)
+      go : (o : Option ℕ) → lowest F free k ≡ o → First F 0 (freeBlock F free k) o → (t : ℕ) × (lowest F free k ≡ some t)
       go o e (found x lo hi t m) = (x, e)
       go o e (missing m) = true-false (freeBlock F free k s) (at-free-block F free k s b) (m s zero-le (omega (arith, b .inside)))
 
   pub serving-at : (i j : ℕ) → i ≤ 10 → serving F free i ≡ some j → (i ≤ j) × (j ≤ 10) × ((s : ℕ) × (lowest F free j ≡ some s))
-  unfolding serving
-  serving-at i j hi e = go (firstFrom (11 - i) i p) e (firstFrom-is (11 - i) i p)
+  serving-at i j hi e = go (serving F free i) e (smallest-order i)
     where
-      p : ℕ → Bool
-      p j = is-some (lowest F free j)
-
-      go : (o : Option ℕ) → o ≡ some j → First (11 - i) i p o → (i ≤ j) × (j ≤ 10) × ((s : ℕ) × (lowest F free j ≡ some s))
+      go : (o : Option ℕ) → o ≡ some j → First (11 - i) i (λ j. is-some (lowest F free j)) o → (i ≤ j) × (j ≤ 10) × ((s : ℕ) × (lowest F free j ≡ some s))
       go o e (found x lo up t m) = let xj : x ≡ j = cc in (omega arith, omega arith, rw xj at (is-some-at (lowest F free x) t))
       go o e (missing m) = let z : _≡_ {A = ℕ} 0 1 = cc in absurd (omega arith)
 
   pub at-serving : (i k s : ℕ) → i ≤ k → k ≤ 10 → BlockAt F free k s → is-some (serving F free i) ≡ true
-  unfolding serving
-  at-serving i k s ik hk b = go (firstFrom (11 - i) i p) refl (firstFrom-is (11 - i) i p)
+  at-serving i k s ik hk b = go (serving F free i) refl (smallest-order i)
     where
-      p : ℕ → Bool
-      p j = is-some (lowest F free j)
-
-      go : (o : Option ℕ) → firstFrom (11 - i) i p ≡ o → First (11 - i) i p o → is-some (firstFrom (11 - i) i p) ≡ true
-      go o e (found x lo up t m) = some-is (firstFrom (11 - i) i p) x e
+      go : (o : Option ℕ) → serving F free i ≡ o → First (11 - i) i (λ j. is-some (lowest F free j)) o → is-some (serving F free i) ≡ true
+      go o e (found x lo up t m) = some-is (serving F free i) x e
       go o e (missing m) =
           let q = at-lowest k s b in
-          true-false (p k) (some-is (lowest F free k) (q .0) (q .1)) (m k ik (omega arith))
+          true-false (is-some (lowest F free k)) (some-is (lowest F free k) (q .0) (q .1)) (m k ik (omega arith))
 
   -- the block that is taken
   pub record Took (left : ℕ) (b : Block) : Type 0 where

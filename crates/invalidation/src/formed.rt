@@ -3,7 +3,7 @@ ghost use mathlib.Core.Path.{_≡_};
 ghost use Prim.Native.Nat.{ℕ, _-_, _≤_, _<_};
 ghost use lib.Dec.{ltb};
 ghost use Rattle.words.specs.Searches.{allFrom, every};
-ghost use Rattle.history.specs.Units.{frameBy, pageEntryOk, rangeEntryOk, lastOk, unitOk};
+ghost use Rattle.history.specs.Units.{frameBy, sitsAt, pageEntryOk, rangeEntryOk, lastOk, unitOk};
 ghost use Rattle.invalidation.specs.Entries.{zeroPage, zeroRange};
 use history::PageEntry;
 use history::RangeEntry;
@@ -30,6 +30,13 @@ fn zero_page(e: PageEntry) -> bool
     e.rights == 0
 }
 
+// Whether page p sits at place k.
+fn sits_at(k: u32, p: u32) -> bool
+    ensures { λ r. ⌜ r ≡ sitsAt k p ⌝ }
+{
+    p % 64 == k
+}
+
 // The page entry at place k.
 fn page_entry_ok(k: u32, e: PageEntry) -> bool
     ensures { λ r. ⌜ r ≡ pageEntryOk k e ⌝ }
@@ -43,7 +50,7 @@ fn page_entry_ok(k: u32, e: PageEntry) -> bool
     if 1023 < e.page {
         return false;
     }
-    if e.page % 64 != k {
+    if !sits_at(k, e.page) {
         return false;
     }
     if 4096 <= e.frame {

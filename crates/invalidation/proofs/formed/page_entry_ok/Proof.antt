@@ -1,8 +1,8 @@
 use Rattle.invalidation.specs.Entries.{zeroPage}
 use Rattle.history.specs.Units.{pageEntryOk}
 use Rattle.runs.specs.PageWords.{allowedRights}
-use borrow.Author.Tests.{eq-eqb, ne-eqb, lt-ltb, le-ltb, le-leb, lt-leb}
-use mathlib.Core.Path.{refl, _∙_}
+use borrow.Author.Tests.{eq-eqb, ne-eqb, lt-ltb, le-ltb, le-leb, lt-leb, not-true, not-false}
+use mathlib.Core.Path.{refl, sym, _∙_}
 use borrow.Author.Needs.{needs}
 use Rattle.invalidation.proofs.formed.page_entry_ok.Statement.{statement}
 use Rattle.invalidation.proofs.formed.page_entry_ok.Tie as tie
@@ -22,19 +22,22 @@ returns-3 : tie.Need-returns-3
 unfolding pageEntryOk
 returns-3 c = rw (eq-eqb _ _ (c .before .before .before .before .if1 .left), pageEntryOk, le-leb _ _ (c .before .before .if2 .left), lt-leb _ _ (c .if3 .taken))
 
+sits-at-requires : tie.Need-sits-at-requires
+sits-at-requires c κs = search needs
+
 returns-4 : tie.Need-returns-4
 unfolding pageEntryOk
-returns-4 c = rw (eq-eqb _ _ (c .before .before .before .before .before .before .if1 .left), pageEntryOk, le-leb _ _ (c .before .before .before .before .if2 .left), le-leb _ _ (c .before .before .if3 .left), ne-eqb _ _ (c .if4 .taken))
+returns-4 c = rw (eq-eqb _ _ (c .before .before .before .before .before .before .if1 .left), pageEntryOk, le-leb _ _ (c .before .before .before .before .if2 .left), le-leb _ _ (c .before .before .if3 .left), sym (c .before .sits-at .ensures) ∙ not-true _ (c .if4 .taken))
 
 returns-5 : tie.Need-returns-5
 unfolding pageEntryOk
-returns-5 c = rw (eq-eqb _ _ (c .before .before .before .before .before .before .before .before .if1 .left), pageEntryOk, le-leb _ _ (c .before .before .before .before .before .before .if2 .left), le-leb _ _ (c .before .before .before .before .if3 .left), eq-eqb _ _ (c .before .before .if4 .left), le-ltb _ _ (c .if5 .taken))
+returns-5 c = rw (eq-eqb _ _ (c .before .before .before .before .before .before .before .before .if1 .left), pageEntryOk, le-leb _ _ (c .before .before .before .before .before .before .if2 .left), le-leb _ _ (c .before .before .before .before .if3 .left), sym (c .before .before .before .sits-at .ensures) ∙ not-false _ (c .before .before .if4 .left), le-ltb _ _ (c .if5 .taken))
 
 returns-6 : tie.Need-returns-6
 unfolding pageEntryOk allowedRights
-returns-6 c = rw (eq-eqb _ _ (c .before .before .before .before .before .before .before .before .before .if1 .left), pageEntryOk, le-leb _ _ (c .before .before .before .before .before .before .before .if2 .left), le-leb _ _ (c .before .before .before .before .before .if3 .left), eq-eqb _ _ (c .before .before .before .if4 .left), lt-ltb _ _ (c .before .if5 .left))
+returns-6 c = rw (eq-eqb _ _ (c .before .before .before .before .before .before .before .before .before .if1 .left), pageEntryOk, le-leb _ _ (c .before .before .before .before .before .before .before .if2 .left), le-leb _ _ (c .before .before .before .before .before .if3 .left), sym (c .before .before .before .before .sits-at .ensures) ∙ not-false _ (c .before .before .before .if4 .left), lt-ltb _ _ (c .before .if5 .left))
 
 pub page-entry-ok-spec : {M : Type 1} → statement M
 page-entry-ok-spec =
     tie.close
-    (tie.spec zero-page-requires returns returns-2 returns-3 returns-4 returns-5 returns-6)
+    (tie.spec zero-page-requires returns returns-2 returns-3 sits-at-requires returns-4 returns-5 returns-6)
