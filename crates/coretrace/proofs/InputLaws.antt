@@ -7,8 +7,8 @@ use native.Mathlib.Numerals.{add-one}
 use native.Mathlib.Omega.{arith}
 use lib.ListN.{length, getD, take, drop, set, length-drop}
 use lib.Seq.{take-take, paste, take-paste, drop-paste, paste-suc, getD-drop}
-use Rattle.trace.specs.declared.Window.{Window}
-use Rattle.trace.specs.Input.{waiting}
+use Rattle.records.specs.declared.Window.{Window}
+use Rattle.records.specs.Input.{waiting}
 
 -- bytes moved to the front: j of those from a place on
 module _ (x : List ℕ) (from j : ℕ) (h : from + j < length x) where

@@ -10,11 +10,11 @@ use lib.Seq.{length-take-le, take-at}
 use borrow.Author.Tests.{leb-true}
 use Rattle.layout.specs.Tables.{Tables}
 use Rattle.trace.specs.declared.State.{State}
-use Rattle.trace.specs.declared.TwoUnits.{TwoUnits}
-use Rattle.trace.specs.Input.{waiting, standing, nextOf}
-use Rattle.trace.specs.Lines.{written}
-use Rattle.trace.specs.Steps.{freshUnits}
-use Rattle.trace.specs.Listing.{Came, last, Listed, full, stops, header, zeroed}
+use Rattle.recordcalls.specs.declared.TwoUnits.{TwoUnits}
+use Rattle.records.specs.Input.{waiting, standing, nextOf}
+use Rattle.records.specs.Lines.{written, header}
+use Rattle.recordcalls.specs.Steps.{freshUnits}
+use Rattle.trace.specs.Listing.{Came, last, Listed, full, stops, zeroed}
 use Rattle.trace.specs.Turns.{Stepped, Lies, Ready}
 use Rattle.trace.proofs.ListingLaws.{record-listed}
 use Rattle.coretrace.specs.Runs.{keeps, Ran, Answered}

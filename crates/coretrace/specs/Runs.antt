@@ -6,8 +6,8 @@ use lib.Dec.{ltb, leb}
 use lib.ListN.{length, take}
 use Rattle.layout.specs.Tables.{Tables}
 use Rattle.trace.specs.declared.State.{State}
-use Rattle.trace.specs.Input.{waiting, standing}
-use Rattle.trace.specs.Steps.{freshUnits}
+use Rattle.records.specs.Input.{waiting, standing}
+use Rattle.recordcalls.specs.Steps.{freshUnits}
 use Rattle.trace.specs.Listing.{Listed, Listing}
 
 -- the held lines are kept where a whole record waits and its line, which has at most 105 bytes, has room behind them

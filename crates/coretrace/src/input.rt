@@ -3,9 +3,9 @@ ghost use mathlib.Core.Path.{_≡_};
 ghost use Prim.Native.Nat.{_+_, _-_, _≤_, _<_};
 ghost use lib.ListN.{length, take, drop};
 ghost use lib.Seq.{paste};
-ghost use Rattle.trace.specs.Input.{waiting, standing};
+ghost use Rattle.records.specs.Input.{waiting, standing};
 use libc::STDIN_FILENO;
-use trace::Window;
+use records::Window;
 
 // Moves the bytes from `from` up to `to` to the front.
 fn shift(buffer: &mut [u8], from: usize, to: usize)
@@ -37,7 +37,7 @@ fn read_on(buffer: &mut [u8], n: usize) -> usize
     ensures { λ _. ⌜ take n (now (buffer .exit)) ≡ take n (now (buffer .entry)) ⌝ }
 {
     let mut to = n;
-    while trace::standing(&buffer[..to]) == 0 {
+    while records::standing(&buffer[..to]) == 0 {
         let got = read_to(buffer, to);
         if got == 0 {
             break;
@@ -57,7 +57,7 @@ pub fn fill(buffer: &mut [u8], w: Window) -> Window
     ensures { λ r. ⌜ take (w .to - w .from) (waiting r (now (buffer .exit))) ≡ waiting w (now (buffer .entry)) ⌝ }
     ensures { λ r. ⌜ (0 < standing (waiting w (now (buffer .entry))) → (r ≡ w) × (now (buffer .exit) ≡ now (buffer .entry))) ⌝ }
 {
-    if trace::ready(buffer, w) {
+    if records::ready(buffer, w) {
         return w;
     }
     shift(buffer, w.from, w.to);

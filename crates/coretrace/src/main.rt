@@ -7,12 +7,12 @@ ghost use mathlib.Core.Path.{_≡_};
 ghost use Prim.Native.Nat.{_-_, _≤_, _<_};
 ghost use lib.ListN.{length, take};
 ghost use Rattle.layout.specs.Tables.{tables};
-ghost use Rattle.trace.specs.Input.{waiting};
+ghost use Rattle.records.specs.Input.{waiting};
 ghost use Rattle.trace.specs.Listing.{last};
 ghost use Rattle.trace.specs.Turns.{Lies, Ready};
 ghost use Rattle.coretrace.specs.Runs.{keeps, Ran, Answered};
+use records::Window;
 use trace::State;
-use trace::Window;
 
 // The last number of 64 bits, which no run comes to.
 const LAST: u64 = 18446744073709551615;
@@ -23,7 +23,7 @@ fn keeps(s: State, buffer: &[u8], lines: &[u8]) -> bool
     ensures { λ r. ⌜ r ≡ keeps s (now (buffer .entry)) (now (lines .entry)) ⌝ }
 {
     let w = s.window;
-    if trace::ready(buffer, w) {
+    if records::ready(buffer, w) {
         return 105 <= lines.len() - s.held;
     }
     false
@@ -65,7 +65,7 @@ fn run(
     ensures { λ r. ⌜ r ≤ length (now (lines .entry)) ⌝ }
     ensures { λ r. ⌜ Ran (tables (now (control .entry)) (now (frames .entry)) (now (pages .entry)) (now (ranges .entry))) (now (lines .exit)) r ⌝ }
 {
-    let mut units = trace::fresh_units();
+    let mut units = recordcalls::fresh_units();
     let mut s = State {
         number: 1,
         window: Window { from: 0, to: 0 },
@@ -75,7 +75,7 @@ fn run(
     while s.number < LAST {
         s = ahead(s, buffer, lines);
         let w = s.window;
-        let next = trace::fetch(buffer, w);
+        let next = records::fetch(buffer, w);
         if trace::wants_unit(next) {
             let a = trace::step_on(
                 s,
@@ -98,7 +98,7 @@ fn run(
             break;
         }
         if a.renews {
-            units = trace::fresh_units();
+            units = recordcalls::fresh_units();
         }
     }
     s.held

@@ -6,7 +6,7 @@ ghost use lib.ListN.{length};
 use libc::STDOUT_FILENO;
 
 pub fn header() {
-    let text = trace::heading();
+    let text = records::heading();
     io::write_all(STDOUT_FILENO, &text);
 }
 

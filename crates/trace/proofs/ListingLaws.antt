@@ -10,16 +10,16 @@ use lib.Seq.{length-take-le, take-at, drop-at}
 use Rattle.words.proofs.Cases.{true-false}
 use Rattle.words.specs.declared.Outcome.{Outcome}
 use Rattle.layout.specs.Tables.{Tables}
-use Rattle.trace.specs.declared.Meaning.{Meaning}
-use Rattle.trace.specs.declared.Next.{Next}
-use Rattle.trace.specs.declared.Next.the-variants.{End, Cut, Whole}
+use Rattle.records.specs.declared.Meaning.{Meaning}
+use Rattle.records.specs.declared.Next.{Next}
+use Rattle.records.specs.declared.Next.the-variants.{End, Cut, Whole}
 use Rattle.trace.specs.declared.State.{State}
 use Rattle.trace.specs.declared.Turn.{Turn}
-use Rattle.trace.specs.declared.TwoUnits.{TwoUnits}
-use Rattle.trace.specs.Input.{waiting, standing, nextOf, behind}
-use Rattle.trace.specs.Lines.{written, line}
-use Rattle.trace.specs.Steps.{Taken}
-use Rattle.trace.proofs.InputLaws.{within, waits-behind, whole-stands, same-standing, same-next}
+use Rattle.recordcalls.specs.declared.TwoUnits.{TwoUnits}
+use Rattle.records.specs.Input.{waiting, standing, nextOf, behind}
+use Rattle.records.specs.Lines.{written, line}
+use Rattle.recordcalls.specs.Steps.{Taken}
+use Rattle.records.proofs.InputLaws.{within, waits-behind, whole-stands, same-standing, same-next}
 use Rattle.trace.specs.Listing.{Came, ended, cut, taken, last, Listed, goes-on}
 use Rattle.trace.specs.Turns.{Stepped, Ready, stopped, shownOf, wantsUnit}
 

@@ -6,14 +6,14 @@ use Prim.Native.Nat.{ℕ, _+_, _<_}
 use lib.ListN.{drop, replicate}
 use Rattle.words.specs.Rows.{refusal}
 use Rattle.layout.specs.Tables.{Tables, tables}
-use Rattle.trace.specs.declared.Meaning.{Meaning}
-use Rattle.trace.specs.declared.Next.{Next}
-use Rattle.trace.specs.declared.Next.the-variants.{End, Cut, Whole}
-use Rattle.trace.specs.declared.Step.{Step}
-use Rattle.trace.specs.declared.TwoUnits.{TwoUnits}
-use Rattle.trace.specs.Input.{standing, nextOf}
-use Rattle.trace.specs.Lines.{line}
-use Rattle.trace.specs.Steps.{freshUnits, Taken}
+use Rattle.records.specs.declared.Meaning.{Meaning}
+use Rattle.records.specs.declared.Next.{Next}
+use Rattle.records.specs.declared.Next.the-variants.{End, Cut, Whole}
+use Rattle.recordcalls.specs.declared.Step.{Step}
+use Rattle.recordcalls.specs.declared.TwoUnits.{TwoUnits}
+use Rattle.records.specs.Input.{standing, nextOf}
+use Rattle.records.specs.Lines.{line, header}
+use Rattle.recordcalls.specs.Steps.{freshUnits, Taken}
 
 -- what comes next as record `number`: the bytes that are shown, the tables and units afterwards, and whether the run goes on
 pub data Came (T : Tables) (p : TwoUnits) (number : ℕ) : Next → List ℕ → Tables → TwoUnits → Bool → Type 0 where
@@ -33,10 +33,6 @@ pub data Listed : Tables → TwoUnits → ℕ → List ℕ → List ℕ → Type
   full : {T : Tables} {p : TwoUnits} {b : List ℕ} → Listed T p last b []
   stops : {T T′ : Tables} {p p′ : TwoUnits} {number : ℕ} {b l : List ℕ} → number < last → Came T p number (nextOf b) l T′ p′ false → Listed T p number b l
   goes-on : {T T′ : Tables} {p p′ : TwoUnits} {number : ℕ} {b l l′ : List ℕ} → number < last → Came T p number (nextOf b) l T′ p′ true → Listed T′ p′ (number + 1) (drop (standing b) b) l′ → Listed T p number b (l ++ l′)
-
--- "record kind answer first second", in ASCII, with a newline at its end
-unfoldable pub header : List ℕ
-header = 114 ∷ 101 ∷ 99 ∷ 111 ∷ 114 ∷ 100 ∷ 32 ∷ 107 ∷ 105 ∷ 110 ∷ 100 ∷ 32 ∷ 97 ∷ 110 ∷ 115 ∷ 119 ∷ 101 ∷ 114 ∷ 32 ∷ 102 ∷ 105 ∷ 114 ∷ 115 ∷ 116 ∷ 32 ∷ 115 ∷ 101 ∷ 99 ∷ 111 ∷ 110 ∷ 100 ∷ 10 ∷ []
 
 -- "It has two units and zeroed buffers"
 unfoldable pub zeroed : Tables

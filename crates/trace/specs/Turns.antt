@@ -6,14 +6,14 @@ use Prim.Native.Nat.{ℕ, _+_, _≤_, _<_}
 use lib.ListN.{length, drop}
 use Rattle.words.specs.Rows.{refusal}
 use Rattle.layout.specs.Tables.{Tables}
-use Rattle.trace.specs.declared.Next.{Next}
-use Rattle.trace.specs.declared.Next.the-variants.{End, Cut, Whole}
+use Rattle.records.specs.declared.Next.{Next}
+use Rattle.records.specs.declared.Next.the-variants.{End, Cut, Whole}
 use Rattle.trace.specs.declared.State.{State}
 use Rattle.trace.specs.declared.Turn.{Turn}
-use Rattle.trace.specs.declared.TwoUnits.{TwoUnits}
-use Rattle.trace.specs.Input.{waiting, standing, nextOf, behind}
-use Rattle.trace.specs.Lines.{written, line}
-use Rattle.trace.specs.Steps.{needsUnit}
+use Rattle.recordcalls.specs.declared.TwoUnits.{TwoUnits}
+use Rattle.records.specs.Input.{waiting, standing, nextOf, behind}
+use Rattle.records.specs.Lines.{written, line}
+use Rattle.recordcalls.specs.Steps.{needsUnit}
 use Rattle.trace.specs.Listing.{Came, last}
 
 -- what the bytes that wait show is put behind the held lines, the number rises by one and the window moves behind the record, so that the bytes behind it wait

@@ -4,22 +4,22 @@ ghost use mathlib.Core.Bool.{false, cond};
 ghost use Prim.Native.Nat.{ℕ, _+_, _≤_};
 ghost use lib.ListN.{length};
 ghost use Rattle.layout.specs.Tables.{tables};
-ghost use Rattle.trace.specs.declared.TwoUnits.{TwoUnits};
-ghost use Rattle.trace.specs.Input.{waiting, nextOf, behind};
-ghost use Rattle.trace.specs.Lines.{written};
-ghost use Rattle.trace.specs.Steps.{freshUnits};
+ghost use Rattle.recordcalls.specs.declared.TwoUnits.{TwoUnits};
+ghost use Rattle.records.specs.Input.{waiting, nextOf, behind};
+ghost use Rattle.records.specs.Lines.{written};
+ghost use Rattle.recordcalls.specs.Steps.{freshUnits};
 ghost use Rattle.trace.specs.Listing.{Came};
 ghost use Rattle.trace.specs.Turns.{Stepped, Lies, Ready, stopped, shownOf, wantsUnit};
-use crate::Next;
 use crate::State;
 use crate::Turn;
-use crate::TwoUnits;
-use crate::input::rest;
-use crate::lines::line;
-use crate::steps::malformed;
-use crate::steps::needs_unit;
-use crate::steps::take;
-use crate::steps::take_beside;
+use recordcalls::TwoUnits;
+use recordcalls::malformed;
+use recordcalls::needs_unit;
+use recordcalls::take;
+use recordcalls::take_beside;
+use records::Next;
+use records::line;
+use records::rest;
 
 // A turn on the units, and the units afterwards.
 struct OnUnits {

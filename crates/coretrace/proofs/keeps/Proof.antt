@@ -5,7 +5,7 @@ use Rattle.coretrace.proofs.keeps.Statement.{statement}
 use Rattle.coretrace.proofs.keeps.Tie as tie
 use Rattle.coretrace.proofs.keeps.Reads as reads
 use Rattle.coretrace.proofs.keeps.Lts as lts
-use Rattle.trace.proofs.ready.Reads as ready-reads
+use Rattle.records.proofs.ready.Reads as ready-reads
 
 -- src/main.rt:24:8
 ready-requires : tie.Need-ready-requires

@@ -14,8 +14,8 @@ use Rattle.coretrace.proofs.run.Tie as tie
 use Rattle.coretrace.proofs.run.Reads as reads
 use Rattle.coretrace.proofs.run.Lts as lts
 use Rattle.coretrace.proofs.ahead.Reads as ahead-reads
-use Rattle.trace.proofs.fetch.Reads as fetch-reads
-use Rattle.trace.proofs.fresh_units.Reads as fresh-units-reads
+use Rattle.records.proofs.fetch.Reads as fetch-reads
+use Rattle.recordcalls.proofs.fresh_units.Reads as fresh-units-reads
 use Rattle.trace.proofs.step_beside.Reads as step-beside-reads
 use Rattle.trace.proofs.step_on.Reads as step-on-reads
 use Rattle.trace.proofs.wants_unit.Reads as wants-unit-reads

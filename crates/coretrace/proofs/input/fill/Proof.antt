@@ -2,7 +2,7 @@ use mathlib.Core.Path.{refl, sym, _∙_}
 use Prim.Native.Nat.{_≤_}
 use native.Mathlib.Omega.{arith}
 use borrow.Author.Tests.{ltb-false}
-use Rattle.trace.specs.Input.{waiting, standing}
+use Rattle.records.specs.Input.{waiting, standing}
 use Rattle.coretrace.proofs.InputLaws.{as-before, moved}
 use borrow.Author.Needs.{needs}
 use Rattle.coretrace.proofs.input.fill.Statement.{statement}
@@ -10,7 +10,7 @@ use Rattle.coretrace.proofs.input.fill.Tie as tie
 use Rattle.coretrace.proofs.input.fill.Reads as reads
 use Rattle.coretrace.proofs.input.fill.Lts as lts
 use Rattle.coretrace.proofs.input.read_on.Reads as read-on-reads
-use Rattle.trace.proofs.ready.Reads as ready-reads
+use Rattle.records.proofs.ready.Reads as ready-reads
 use Rattle.coretrace.proofs.input.shift.Reads as shift-reads
 
 -- src/input.rt:102:8

@@ -10,7 +10,7 @@ use Rattle.coretrace.proofs.input.read_on.Tie as tie
 use Rattle.coretrace.proofs.input.read_on.Reads as reads
 use Rattle.coretrace.proofs.input.read_on.Lts as lts
 use Rattle.coretrace.proofs.input.read_to.Reads as read-to-reads
-use Rattle.trace.proofs.standing.Reads as standing-reads
+use Rattle.records.proofs.standing.Reads as standing-reads
 
 abbrev Inv-loop : tie.InvT-loop
 Inv-loop buffer₀ n to₀ buffer to = (length buffer ≡ length buffer₀) × ((n ≤ to) × ((to ≤ length buffer) × (take n buffer ≡ take n buffer₀)))

@@ -1,13 +1,13 @@
 use mathlib.Core.Path.{ap, _∙_}
 use Prim.Native.Nat.{ℕ, _+_}
-use Rattle.trace.specs.declared.Window.{Window}
-use Rattle.trace.specs.Input.{behind}
+use Rattle.records.specs.declared.Window.{Window}
+use Rattle.records.specs.Input.{behind}
 use borrow.Author.Needs.{needs}
 use Rattle.trace.proofs.turns.after.Statement.{statement}
 use Rattle.trace.proofs.turns.after.Tie as tie
 use Rattle.trace.proofs.turns.after.Reads as reads
 use Rattle.trace.proofs.turns.after.Lts as lts
-use Rattle.trace.proofs.input.rest.Reads as rest-reads
+use Rattle.records.proofs.rest.Reads as rest-reads
 use Rattle.trace.proofs.turns.show.Reads as show-reads
 
 -- src/turns.rt:166:9

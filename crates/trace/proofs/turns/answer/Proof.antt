@@ -4,7 +4,7 @@ use Rattle.trace.proofs.turns.answer.Statement.{statement}
 use Rattle.trace.proofs.turns.answer.Tie as tie
 use Rattle.trace.proofs.turns.answer.Reads as reads
 use Rattle.trace.proofs.turns.answer.Lts as lts
-use Rattle.trace.proofs.steps.take.Reads as take-reads
+use Rattle.recordcalls.proofs.take.Reads as take-reads
 use Rattle.trace.proofs.turns.stop.Reads as stop-reads
 
 -- src/turns.rt:84:19

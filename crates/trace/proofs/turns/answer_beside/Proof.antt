@@ -6,7 +6,7 @@ use Rattle.trace.proofs.turns.answer_beside.Statement.{statement}
 use Rattle.trace.proofs.turns.answer_beside.Tie as tie
 use Rattle.trace.proofs.turns.answer_beside.Reads as reads
 use Rattle.trace.proofs.turns.answer_beside.Lts as lts
-use Rattle.trace.proofs.steps.take_beside.Reads as take-beside-reads
+use Rattle.recordcalls.proofs.take_beside.Reads as take-beside-reads
 use Rattle.trace.proofs.turns.stop.Reads as stop-reads
 
 -- src/turns.rt:121:19

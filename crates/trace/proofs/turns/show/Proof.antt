@@ -4,14 +4,14 @@ use Prim.Native.Nat.{ℕ, _+_}
 use native.Mathlib.Nat.{add-zero}
 use native.Mathlib.Omega.{arith}
 use lib.ListN.{length}
-use Rattle.trace.specs.Lines.{written}
+use Rattle.records.specs.Lines.{written}
 use Rattle.trace.proofs.ListingLaws.{shows-line, shows-none, nothing-written}
 use borrow.Author.Needs.{needs}
 use Rattle.trace.proofs.turns.show.Statement.{statement}
 use Rattle.trace.proofs.turns.show.Tie as tie
 use Rattle.trace.proofs.turns.show.Reads as reads
 use Rattle.trace.proofs.turns.show.Lts as lts
-use Rattle.trace.proofs.lines.line.Reads as line-reads
+use Rattle.records.proofs.line.Reads as line-reads
 
 -- src/turns.rt:153:9
 line-requires : tie.Need-line-requires

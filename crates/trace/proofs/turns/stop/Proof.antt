@@ -7,7 +7,7 @@ use Rattle.trace.proofs.turns.stop.Statement.{statement}
 use Rattle.trace.proofs.turns.stop.Tie as tie
 use Rattle.trace.proofs.turns.stop.Reads as reads
 use Rattle.trace.proofs.turns.stop.Lts as lts
-use Rattle.trace.proofs.steps.malformed.Reads as malformed-reads
+use Rattle.recordcalls.proofs.malformed.Reads as malformed-reads
 
 -- src/turns.rt:66:18
 malformed-requires : tie.Need-malformed-requires

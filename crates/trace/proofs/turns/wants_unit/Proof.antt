@@ -5,7 +5,7 @@ use Rattle.trace.proofs.turns.wants_unit.Statement.{statement}
 use Rattle.trace.proofs.turns.wants_unit.Tie as tie
 use Rattle.trace.proofs.turns.wants_unit.Reads as reads
 use Rattle.trace.proofs.turns.wants_unit.Lts as lts
-use Rattle.trace.proofs.steps.needs_unit.Reads as needs-unit-reads
+use Rattle.recordcalls.proofs.needs_unit.Reads as needs-unit-reads
 
 -- src/turns.rt:53:22
 enum-told : tie.Need-enum-told
