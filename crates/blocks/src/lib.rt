@@ -1,5 +1,12 @@
 // The frame pool's types. Definitions and laws stand in specs/ and proofs/; the code is in the crates `framewords`, `splitting`, `merging` and `frames`.
 
+// Pool sizes are 1 to 4,096.
+pub const LARGEST_POOL: u32 = 4096;
+
+pub const LAST_FRAME: u32 = 4095;
+
+pub const BUFFER_WORDS: usize = 4096;
+
 // A frame number. A virtual page number never stands in its place.
 pub struct Frame(pub u32);
 

@@ -14,12 +14,12 @@ use Rattle.words.specs.Searches.{allFrom}
 use Rattle.words.proofs.Cases.{by-test, by-dec, true-false, and-true, true-and}
 use Rattle.words.proofs.SearchLaws.{allFrom-at, at-allFrom}
 use Rattle.blocks.specs.FrameWords.{isPoolSize}
-use Rattle.control.specs.Control.{poolSize, removals, openMask, placeOf, recordSpace, recordFirst, recordCount, withRemovals, withMask, withRecord, used, recordOk, recordFits, lawfulControl, isOpen, openedMask, closedMask, appended, freshControl}
+use Rattle.control.specs.Control.{controlWords, poolSize, removals, openMask, placeOf, recordSpace, recordFirst, recordCount, withRemovals, withMask, withRecord, used, recordOk, recordFits, lawfulControl, isOpen, openedMask, closedMask, appended, freshControl}
 use Rattle.control.proofs.MaskLaws.{set-here, set-other, set-fits, cleared-other}
 
 -- the places lie inside the buffer, behind the fields before them, and apart from each other
 
-pub place-inside : (j : ℕ) → j < 64 → placeOf j + 2 < 195
+pub place-inside : (j : ℕ) → j < 64 → placeOf j + 2 < controlWords
 unfolding placeOf
 place-inside j h = omega arith
 
@@ -46,7 +46,7 @@ module _ (c : List ℕ) (n : ℕ) where
   unfolding withRemovals poolSize
   removals-pool = getD-set-other c 1 0 n 0 (λ e. omega arith)
 
-  pub removals-written : length c ≡ 195 → removals (withRemovals c n) ≡ n
+  pub removals-written : length c ≡ controlWords → removals (withRemovals c n) ≡ n
   unfolding withRemovals removals
   removals-written len = getD-set-same c 1 n 0 (omega arith)
 
@@ -78,7 +78,7 @@ module _ (c : List ℕ) (m : ℕ) where
   unfolding withMask removals
   mask-removals = getD-set-other c 2 1 m 0 (λ e. omega arith)
 
-  pub mask-written : length c ≡ 195 → openMask (withMask c m) ≡ m
+  pub mask-written : length c ≡ controlWords → openMask (withMask c m) ≡ m
   unfolding withMask openMask
   mask-written len = getD-set-same c 2 m 0 (omega arith)
 
@@ -120,7 +120,7 @@ module _ (c : List ℕ) (j s f n : ℕ) where
   unfolding openMask
   record-mask = field-before 2 (omega arith)
 
-  module _ (len : length c ≡ 195) (h : j < 64) where
+  module _ (len : length c ≡ controlWords) (h : j < 64) where
     pub record-space : recordSpace (withRecord c j s f n) j ≡ s
     unfolding withRecord recordSpace
     record-space =
@@ -174,7 +174,7 @@ module _ (c : List ℕ) (s f n : ℕ) where
       same-trans _ _ _ j (removals-places c _ j)
       (record-places _ _ s f n j ne)
 
-  module _ (len : length c ≡ 195) where
+  module _ (len : length c ≡ controlWords) where
     pub appended-removals : removals (appended c s f n) ≡ removals c + 1
     unfolding appended
     appended-removals = record-removals _ _ s f n ∙ removals-written c _ len
@@ -193,19 +193,19 @@ module _ (c : List ℕ) (s f n : ℕ) where
 
 -- the fields of a pool just set up
 module _ (F : ℕ) where
-  pub fresh-length : length (freshControl F) ≡ 195
+  pub fresh-length : length (freshControl F) ≡ controlWords
   unfolding freshControl
-  fresh-length = ap suc (length-replicate {A = ℕ} 194 0)
+  fresh-length = ap suc (length-replicate {A = ℕ} (controlWords - 1) 0)
 
   pub fresh-pool : poolSize (freshControl F) ≡ F
   unfolding freshControl poolSize
   fresh-pool = refl
 
   -- every word behind the pool size
-  fresh-word : (i : ℕ) → 1 ≤ i → i < 195 → getD (freshControl F) i 0 ≡ 0
+  fresh-word : (i : ℕ) → 1 ≤ i → i < controlWords → getD (freshControl F) i 0 ≡ 0
   unfolding freshControl
   fresh-word zero lo hi = absurd (omega arith)
-  fresh-word (suc i) lo hi = getD-replicate 194 i 0 0 (omega arith)
+  fresh-word (suc i) lo hi = getD-replicate (controlWords - 1) i 0 0 (omega arith)
 
   pub fresh-removals : removals (freshControl F) ≡ 0
   unfolding removals
@@ -223,11 +223,11 @@ module _ (F : ℕ) where
       (fresh-word (placeOf j) (omega arith) (omega arith), fresh-word (placeOf j + 1) (omega arith) (omega arith), fresh-word (placeOf j + 2) (omega arith) (omega arith))
 
   -- a buffer of zeros in which the pool size is written
-  pub fresh-is : (c : List ℕ) → length c ≡ 195 → ((i : ℕ) → i < 195 → getD c i 0 ≡ 0) → set c 0 F ≡ freshControl F
+  pub fresh-is : (c : List ℕ) → length c ≡ controlWords → ((i : ℕ) → i < controlWords → getD c i 0 ≡ 0) → set c 0 F ≡ freshControl F
   unfolding freshControl
   fresh-is c len zeros =
       ext-getD 0 (set c 0 F) (freshControl F) (length-set c 0 F ∙ len ∙ sym fresh-length) (λ i hi.
-      let lt : i < 195 = omega (arith, length-set c 0 F) in
+      let lt : i < controlWords = omega (arith, length-set c 0 F) in
       by-dec (ℕ-discrete i 0)
       (λ z. rw z (getD-set-same c 0 F 0 (omega arith)))
       (λ nz. getD-set-other c 0 i F 0 nz ∙ zeros i lt ∙ sym (fresh-word i (omega arith) lt)))
@@ -378,13 +378,13 @@ fresh-lawful F t =
       fits = λ j h. let z = fresh-places F j h in sym (unused-yes _ _ _ _ (rw (fresh-removals F) (used-none j h)) (z .0) (z .1) (z .2));
     })
 
-new-fits : (c : List ℕ) (s f n : ℕ) → length c ≡ 195 → s ≤ 3 → 1 ≤ n → f + n ≤ 1024 → recordFits (appended c s f n) ((removals c + 1) % 64) ≡ true
+new-fits : (c : List ℕ) (s f n : ℕ) → length c ≡ controlWords → s ≤ 3 → 1 ≤ n → f + n ≤ 1024 → recordFits (appended c s f n) ((removals c + 1) % 64) ≡ true
 unfolding recordFits
 new-fits c s f n len hs hn hf =
     rw (appended-removals c s f n len, appended-space c s f n len, appended-first c s f n len, appended-count c s f n len)
     (sym (used-yes _ _ _ _ (used-new (removals c)) hs hn hf))
 
-pub appended-lawful : (c : List ℕ) (s f n : ℕ) → length c ≡ 195 → lawfulControl c ≡ true → s ≤ 3 → 1 ≤ n → f + n ≤ 1024 → lawfulControl (appended c s f n) ≡ true
+pub appended-lawful : (c : List ℕ) (s f n : ℕ) → length c ≡ controlWords → lawfulControl c ≡ true → s ≤ 3 → 1 ≤ n → f + n ≤ 1024 → lawfulControl (appended c s f n) ≡ true
 appended-lawful c s f n len t hs hn hf =
     let x = lawful-says c t in
     let m = x .mask in
@@ -397,7 +397,7 @@ appended-lawful c s f n len t hs hn hf =
     })
 
 -- another mask of at most 15
-pub mask-lawful : (c : List ℕ) (m : ℕ) → length c ≡ 195 → lawfulControl c ≡ true → m ≤ 15 → lawfulControl (withMask c m) ≡ true
+pub mask-lawful : (c : List ℕ) (m : ℕ) → length c ≡ controlWords → lawfulControl c ≡ true → m ≤ 15 → lawfulControl (withMask c m) ≡ true
 mask-lawful c m len t h =
     let x = lawful-says c t in
     says-lawful (withMask c m) (record {
@@ -406,7 +406,7 @@ mask-lawful c m len t h =
       fits = λ j hj. fits-same c (withMask c m) j (rw (mask-removals c m) refl) (mask-places c m j) ∙ x .fits j hj;
     })
 
-module _ (c : List ℕ) (s : ℕ) (len : length c ≡ 195) (shut : isOpen (openMask c) s ≡ false) where
+module _ (c : List ℕ) (s : ℕ) (len : length c ≡ controlWords) (shut : isOpen (openMask c) s ≡ false) where
   pub opened-mask : openMask (openedMask c s) ≡ openMask c + 2 ^ s
   unfolding openedMask
   opened-mask = mask-written c (openMask c + 2 ^ s) len
@@ -423,7 +423,7 @@ module _ (c : List ℕ) (s : ℕ) (len : length c ≡ 195) (shut : isOpen (openM
   pub opened-other : (t : ℕ) → (t ≡ s → ⊥) → isOpen (openMask (openedMask c s)) t ≡ isOpen (openMask c) t
   opened-other t ne = rw opened-mask (set-other (openMask c) s shut t ne)
 
-module _ (c : List ℕ) (s : ℕ) (len : length c ≡ 195) (is-open : isOpen (openMask c) s ≡ true) where
+module _ (c : List ℕ) (s : ℕ) (len : length c ≡ controlWords) (is-open : isOpen (openMask c) s ≡ true) where
   pub closed-mask : openMask (closedMask c s) ≡ openMask c - 2 ^ s
   unfolding closedMask
   closed-mask = mask-written c (openMask c - 2 ^ s) len

@@ -3,8 +3,12 @@ ghost use mathlib.Core.Path.{_≡_};
 ghost use mathlib.Core.Bool.{true, false};
 ghost use Prim.Native.Nat.{_+_, _^_, _≤_, _<_};
 ghost use lib.ListN.{length};
-ghost use Rattle.control.specs.Control.{poolSize, removals, openMask, placeOf, recordSpace, recordFirst, recordCount, used, recordOk, recordFits, lawfulControl, isOpen, openedMask, closedMask, appended, freshControl};
+ghost use Rattle.words.specs.Sizes.{lastSpace, largestWord};
+ghost use Rattle.control.specs.Control.{controlWords, logPlaces, allOpen, poolSize, removals, openMask, placeOf, recordSpace, recordFirst, recordCount, used, recordOk, recordFits, lawfulControl, isOpen, openedMask, closedMask, appended, freshControl};
+use blocks::LARGEST_POOL;
 use runs::Page;
+use words::LAST_SPACE;
+use words::PAGES;
 
 const POOL: usize = 0;
 
@@ -12,26 +16,33 @@ const REMOVALS: usize = 1;
 
 const MASK: usize = 2;
 
+// Where the removal records begin, how many words each has, and how many places there are.
 const RECORDS: u32 = 3;
 
-const LENGTH: usize = 195;
+const RECORD_WORDS: u32 = 3;
+
+pub const PLACES: u32 = 64;
+
+pub const WORDS: usize = 195;
+
+const ALL_OPEN: u32 = 15;
 
 pub fn pool_size(control: &[u32]) -> u32
-    requires { ⌜ length (now control) ≡ 195 ⌝ }
+    requires { ⌜ length (now control) ≡ controlWords ⌝ }
     ensures { λ r. ⌜ r ≡ poolSize (now (control .entry)) ⌝ }
 {
     control[POOL]
 }
 
 pub fn removal_count(control: &[u32]) -> u32
-    requires { ⌜ length (now control) ≡ 195 ⌝ }
+    requires { ⌜ length (now control) ≡ controlWords ⌝ }
     ensures { λ r. ⌜ r ≡ removals (now (control .entry)) ⌝ }
 {
     control[REMOVALS]
 }
 
 pub fn open_mask(control: &[u32]) -> u32
-    requires { ⌜ length (now control) ≡ 195 ⌝ }
+    requires { ⌜ length (now control) ≡ controlWords ⌝ }
     ensures { λ r. ⌜ r ≡ openMask (now (control .entry)) ⌝ }
 {
     control[MASK]
@@ -39,17 +50,17 @@ pub fn open_mask(control: &[u32]) -> u32
 
 // The first word of place j.
 fn place_of(j: u32) -> usize
-    requires { ⌜ j < 64 ⌝ }
+    requires { ⌜ j < logPlaces ⌝ }
     ensures { λ r. ⌜ r ≡ placeOf j ⌝ }
-    ensures { λ r. ⌜ r + 2 < 195 ⌝ }
+    ensures { λ r. ⌜ r + 2 < controlWords ⌝ }
 {
-    (RECORDS + 3 * j) as usize
+    (RECORDS + RECORD_WORDS * j) as usize
 }
 
 // The space of the record in place j.
 pub fn record_space(control: &[u32], j: u32) -> u32
-    requires { ⌜ length (now control) ≡ 195 ⌝ }
-    requires { ⌜ j < 64 ⌝ }
+    requires { ⌜ length (now control) ≡ controlWords ⌝ }
+    requires { ⌜ j < logPlaces ⌝ }
     ensures { λ r. ⌜ r ≡ recordSpace (now (control .entry)) j ⌝ }
 {
     let at = place_of(j);
@@ -58,8 +69,8 @@ pub fn record_space(control: &[u32], j: u32) -> u32
 
 // Its first page.
 pub fn record_first(control: &[u32], j: u32) -> Page
-    requires { ⌜ length (now control) ≡ 195 ⌝ }
-    requires { ⌜ j < 64 ⌝ }
+    requires { ⌜ length (now control) ≡ controlWords ⌝ }
+    requires { ⌜ j < logPlaces ⌝ }
     ensures { λ r. ⌜ r .0 ≡ recordFirst (now (control .entry)) j ⌝ }
 {
     let at = place_of(j);
@@ -68,8 +79,8 @@ pub fn record_first(control: &[u32], j: u32) -> Page
 
 // Its page count.
 pub fn record_count(control: &[u32], j: u32) -> u32
-    requires { ⌜ length (now control) ≡ 195 ⌝ }
-    requires { ⌜ j < 64 ⌝ }
+    requires { ⌜ length (now control) ≡ controlWords ⌝ }
+    requires { ⌜ j < logPlaces ⌝ }
     ensures { λ r. ⌜ r ≡ recordCount (now (control .entry)) j ⌝ }
 {
     let at = place_of(j);
@@ -78,7 +89,7 @@ pub fn record_count(control: &[u32], j: u32) -> u32
 
 // The mask of space s alone.
 fn bit_of(s: u32) -> u32
-    requires { ⌜ s ≤ 3 ⌝ }
+    requires { ⌜ s ≤ lastSpace ⌝ }
     ensures { λ r. ⌜ r ≡ 2 ^ s ⌝ }
     ensures { λ r. ⌜ 1 ≤ r ⌝ }
     ensures { λ r. ⌜ r ≤ 8 ⌝ }
@@ -88,7 +99,7 @@ fn bit_of(s: u32) -> u32
 
 // Whether space s is open in a mask.
 pub fn is_open(mask: u32, s: u32) -> bool
-    requires { ⌜ s ≤ 3 ⌝ }
+    requires { ⌜ s ≤ lastSpace ⌝ }
     ensures { λ r. ⌜ r ≡ isOpen mask s ⌝ }
 {
     let bit = bit_of(s);
@@ -99,7 +110,7 @@ pub fn is_open(mask: u32, s: u32) -> bool
 fn is_used(c: u32, j: u32) -> bool
     ensures { λ r. ⌜ r ≡ used c j ⌝ }
 {
-    if 64 <= c {
+    if PLACES <= c {
         return true;
     }
     if j < 1 {
@@ -121,21 +132,21 @@ fn record_ok(used: bool, space: u32, first: u32, count: u32) -> bool
         }
         return count == 0;
     }
-    if 3 < space {
+    if LAST_SPACE < space {
         return false;
     }
     if count < 1 {
         return false;
     }
-    if 1024 < count {
+    if PAGES < count {
         return false;
     }
-    first <= 1024 - count
+    first <= PAGES - count
 }
 
 fn record_fits(control: &[u32], j: u32) -> bool
-    requires { ⌜ length (now control) ≡ 195 ⌝ }
-    requires { ⌜ j < 64 ⌝ }
+    requires { ⌜ length (now control) ≡ controlWords ⌝ }
+    requires { ⌜ j < logPlaces ⌝ }
     ensures { λ r. ⌜ r ≡ recordFits (now (control .entry)) j ⌝ }
 {
     let stands = is_used(removal_count(control), j);
@@ -146,21 +157,21 @@ fn record_fits(control: &[u32], j: u32) -> bool
 
 // Whether the control buffer keeps its layout.
 pub fn control_lawful(control: &[u32]) -> bool
-    requires { ⌜ length (now control) ≡ 195 ⌝ }
+    requires { ⌜ length (now control) ≡ controlWords ⌝ }
     ensures { λ r. ⌜ r ≡ lawfulControl (now (control .entry)) ⌝ }
 {
     let pool = pool_size(control);
     if pool < 1 {
         return false;
     }
-    if 4096 < pool {
+    if LARGEST_POOL < pool {
         return false;
     }
-    if 15 < open_mask(control) {
+    if ALL_OPEN < open_mask(control) {
         return false;
     }
     let mut j = 0;
-    while j < 64 {
+    while j < PLACES {
         if !record_fits(control, j) {
             return false;
         }
@@ -171,7 +182,7 @@ pub fn control_lawful(control: &[u32]) -> bool
 
 // The number after m. A parameter is known to fit its type, where a word read from a buffer is not.
 fn next_number(m: u32) -> u32
-    requires { ⌜ (m ≡ 4294967295 → ⊥) ⌝ }
+    requires { ⌜ (m ≡ largestWord → ⊥) ⌝ }
     ensures { λ r. ⌜ r ≡ m + 1 ⌝ }
 {
     m + 1
@@ -179,12 +190,12 @@ fn next_number(m: u32) -> u32
 
 // Appends a removal record.
 pub fn append(control: &mut [u32], space: u32, first: Page, count: u32)
-    requires { ⌜ length (now control) ≡ 195 ⌝ }
-    requires { ⌜ (removals (now control) ≡ 4294967295 → ⊥) ⌝ }
+    requires { ⌜ length (now control) ≡ controlWords ⌝ }
+    requires { ⌜ (removals (now control) ≡ largestWord → ⊥) ⌝ }
     ensures { λ _. ⌜ now (control .exit) ≡ appended (now (control .entry)) space (first .0) count ⌝ }
 {
     let m = next_number(removal_count(control));
-    let at = place_of(m % 64);
+    let at = place_of(m % PLACES);
     control[REMOVALS] = m;
     control[at] = space;
     control[at + 1] = first.0;
@@ -193,9 +204,9 @@ pub fn append(control: &mut [u32], space: u32, first: Page, count: u32)
 
 // Opens space s in the mask.
 pub fn open_space(control: &mut [u32], s: u32)
-    requires { ⌜ length (now control) ≡ 195 ⌝ }
-    requires { ⌜ s ≤ 3 ⌝ }
-    requires { ⌜ openMask (now control) ≤ 15 ⌝ }
+    requires { ⌜ length (now control) ≡ controlWords ⌝ }
+    requires { ⌜ s ≤ lastSpace ⌝ }
+    requires { ⌜ openMask (now control) ≤ allOpen ⌝ }
     requires { ⌜ isOpen (openMask (now control)) s ≡ false ⌝ }
     ensures { λ _. ⌜ now (control .exit) ≡ openedMask (now (control .entry)) s ⌝ }
 {
@@ -205,9 +216,9 @@ pub fn open_space(control: &mut [u32], s: u32)
 
 // Closes space s in the mask.
 pub fn close_space(control: &mut [u32], s: u32)
-    requires { ⌜ length (now control) ≡ 195 ⌝ }
-    requires { ⌜ s ≤ 3 ⌝ }
-    requires { ⌜ openMask (now control) ≤ 15 ⌝ }
+    requires { ⌜ length (now control) ≡ controlWords ⌝ }
+    requires { ⌜ s ≤ lastSpace ⌝ }
+    requires { ⌜ openMask (now control) ≤ allOpen ⌝ }
     requires { ⌜ isOpen (openMask (now control)) s ≡ true ⌝ }
     ensures { λ _. ⌜ now (control .exit) ≡ closedMask (now (control .entry)) s ⌝ }
 {
@@ -217,11 +228,11 @@ pub fn close_space(control: &mut [u32], s: u32)
 
 // The control buffer of a pool just set up.
 pub fn fresh_control(control: &mut [u32], pool: u32)
-    requires { ⌜ length (now control) ≡ 195 ⌝ }
+    requires { ⌜ length (now control) ≡ controlWords ⌝ }
     ensures { λ _. ⌜ now (control .exit) ≡ freshControl pool ⌝ }
 {
     let mut i = 0;
-    while i < LENGTH {
+    while i < WORDS {
         control[i] = 0;
         i += 1;
     }

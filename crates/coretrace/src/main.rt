@@ -112,10 +112,10 @@ fn list(buffer: &mut [u8], lines: &mut [u8]) -> usize
     ensures { λ r. ⌜ Answered (now (lines .exit)) r ⌝ }
 {
     output::header();
-    let mut control = [0u32; 195];
-    let mut frames = [0u32; 4096];
-    let mut pages = [0u32; 4096];
-    let mut ranges = [0u32; 2048];
+    let mut control = [0u32; layout::CONTROL_WORDS];
+    let mut frames = [0u32; layout::FRAME_BUFFER_WORDS];
+    let mut pages = [0u32; layout::PAGE_BUFFER_WORDS];
+    let mut ranges = [0u32; layout::RANGE_BUFFER_WORDS];
     run(
         &mut control,
         &mut frames,

@@ -2,6 +2,7 @@
 ghost use mathlib.Core.Path.{_≡_};
 ghost use mathlib.Core.Bool.{true, _&&_};
 ghost use lib.ListN.{length};
+ghost use Rattle.words.specs.Sizes.{pagesInSpace};
 ghost use Rattle.words.specs.Counts.{count, one-if};
 ghost use Rattle.words.specs.Searches.{anyFrom};
 ghost use Rattle.words.specs.Rows.{refusal, numberOf};
@@ -18,7 +19,9 @@ use ranges::page_words::one_if_mapped;
 use ranges::page_words::range_bit;
 use refusals::judge_shared;
 use refusals::outcome;
+use runs::PAGE_WORDS;
 use tablecheck::any_mapped;
+use words::PAGES;
 
 // The first refusal that applies, or Done with zeros.
 fn judge_coverage(
@@ -30,14 +33,14 @@ fn judge_coverage(
 ) -> Answer
     ensures { λ r. ⌜ outcome r ≡ refusal (numberOf (row (tables (now (control .entry)) (now (frames .entry)) (now (pages .entry)) (now (ranges .entry))) (Coverage space))) ⌝ }
 {
-    let judged = judge_shared(control, frames, pages, ranges, space, 0, 1024, 0);
+    let judged = judge_shared(control, frames, pages, ranges, space, 0, PAGES, 0);
     let o = outcome(judged);
     if o.number != 0 {
         return judged;
     }
-    let a = 1024 * (space as usize);
-    let e = a + 1024;
-    if !any_mapped(&pages[a..e], 0, 1024) {
+    let a = PAGE_WORDS * (space as usize);
+    let e = a + PAGE_WORDS;
+    if !any_mapped(&pages[a..e], 0, PAGES) {
         return Answer::NotMapped;
     }
     judged
@@ -58,12 +61,12 @@ fn one_if_in_range(w: u32) -> u32
 
 // How many pages of a space are mapped. The caller lends its 1,024 page words.
 fn mapped_pages(part: &[u32]) -> u32
-    requires { ⌜ length (now part) ≡ 1024 ⌝ }
-    ensures { λ r. ⌜ r ≡ count 1024 (pageMapped (now (part .entry))) ⌝ }
+    requires { ⌜ length (now part) ≡ pagesInSpace ⌝ }
+    ensures { λ r. ⌜ r ≡ count pagesInSpace (pageMapped (now (part .entry))) ⌝ }
 {
     let mut n: u32 = 0;
     let mut p = 0;
-    while p < 1024 {
+    while p < PAGE_WORDS {
         n += one_if_mapped(part[p]);
         p += 1;
     }
@@ -72,12 +75,12 @@ fn mapped_pages(part: &[u32]) -> u32
 
 // How many pages of a space lie in ranges.
 fn pages_in_ranges(part: &[u32]) -> u32
-    requires { ⌜ length (now part) ≡ 1024 ⌝ }
-    ensures { λ r. ⌜ r ≡ count 1024 (pageInRange (now (part .entry))) ⌝ }
+    requires { ⌜ length (now part) ≡ pagesInSpace ⌝ }
+    ensures { λ r. ⌜ r ≡ count pagesInSpace (pageInRange (now (part .entry))) ⌝ }
 {
     let mut n: u32 = 0;
     let mut p = 0;
-    while p < 1024 {
+    while p < PAGE_WORDS {
         n += one_if_in_range(part[p]);
         p += 1;
     }
@@ -86,9 +89,9 @@ fn pages_in_ranges(part: &[u32]) -> u32
 
 // The pages in ranges in parts of 10,000 of the mapped pages, rounded down.
 fn figure(part: &[u32]) -> u32
-    requires { ⌜ length (now part) ≡ 1024 ⌝ }
-    requires { ⌜ anyFrom 1024 0 (pageMapped (now part)) ≡ true ⌝ }
-    ensures { λ r. ⌜ r ≡ coverageFigure (count 1024 (pageInRange (now (part .entry)))) (count 1024 (pageMapped (now (part .entry)))) ⌝ }
+    requires { ⌜ length (now part) ≡ pagesInSpace ⌝ }
+    requires { ⌜ anyFrom pagesInSpace 0 (pageMapped (now part)) ≡ true ⌝ }
+    ensures { λ r. ⌜ r ≡ coverageFigure (count pagesInSpace (pageInRange (now (part .entry)))) (count pagesInSpace (pageMapped (now (part .entry)))) ⌝ }
 {
     let within = pages_in_ranges(part);
     let all = mapped_pages(part);
@@ -110,8 +113,8 @@ pub fn coverage(
     if o.number != 0 {
         return judged;
     }
-    let a = 1024 * (space as usize);
-    let e = a + 1024;
+    let a = PAGE_WORDS * (space as usize);
+    let e = a + PAGE_WORDS;
     Answer::Done {
         first: figure(&pages[a..e]),
         second: 0,

@@ -3,22 +3,26 @@ ghost use mathlib.Core.Path.{_≡_};
 ghost use mathlib.Core.Bool.{true};
 ghost use Prim.Native.Nat.{_+_, _-_, _≤_};
 ghost use lib.ListN.{length};
+ghost use Rattle.words.specs.Sizes.{pagesInSpace};
 ghost use Rattle.words.specs.Tables.{imap};
-ghost use Rattle.control.specs.Control.{removals, lawfulControl};
+ghost use Rattle.control.specs.Control.{controlWords, removals, lawfulControl};
 ghost use Rattle.history.specs.Units.{emptied};
 ghost use Rattle.history.specs.CatchUp.{removalAt, namesEntry, overlaps, keepPage, keepRange, keepLast, dropped, applied, caughtUp};
 ghost use Rattle.invalidation.specs.Entries.{withPages, withRanges};
+use control::PLACES;
+use history::NONE_USED;
 use history::PageEntry;
+use history::RANGE_PLACES;
 use history::RangeEntry;
 use history::Removal;
 use history::Unit;
 
 // Record m.
 fn removal_at(control: &[u32], m: u32) -> Removal
-    requires { ⌜ length (now control) ≡ 195 ⌝ }
+    requires { ⌜ length (now control) ≡ controlWords ⌝ }
     ensures { λ r. ⌜ r ≡ removalAt (now (control .entry)) m ⌝ }
 {
-    let j = m % 64;
+    let j = m % PLACES;
     let space = control::record_space(control, j);
     let first = control::record_first(control, j);
     let count = control::record_count(control, j);
@@ -31,7 +35,7 @@ fn removal_at(control: &[u32], m: u32) -> Removal
 
 // Whether the record names the page entry.
 fn names_entry(d: Removal, e: PageEntry) -> bool
-    requires { ⌜ d .first + d .count ≤ 1024 ⌝ }
+    requires { ⌜ d .first + d .count ≤ pagesInSpace ⌝ }
     ensures { λ r. ⌜ r ≡ namesEntry d e ⌝ }
 {
     if e.valid != 1 {
@@ -48,7 +52,7 @@ fn names_entry(d: Removal, e: PageEntry) -> bool
 
 // Whether the range entry overlaps the record.
 fn overlaps(d: Removal, e: RangeEntry) -> bool
-    requires { ⌜ d .first + d .count ≤ 1024 ⌝ }
+    requires { ⌜ d .first + d .count ≤ pagesInSpace ⌝ }
     ensures { λ r. ⌜ r ≡ overlaps d e ⌝ }
 {
     if e.valid != 1 {
@@ -64,7 +68,7 @@ fn overlaps(d: Removal, e: RangeEntry) -> bool
 }
 
 fn keep_page(d: Removal, e: PageEntry) -> PageEntry
-    requires { ⌜ d .first + d .count ≤ 1024 ⌝ }
+    requires { ⌜ d .first + d .count ≤ pagesInSpace ⌝ }
     ensures { λ r. ⌜ r ≡ keepPage d e ⌝ }
 {
     if names_entry(d, e) {
@@ -80,7 +84,7 @@ fn keep_page(d: Removal, e: PageEntry) -> PageEntry
 }
 
 fn keep_range(d: Removal, e: RangeEntry) -> RangeEntry
-    requires { ⌜ d .first + d .count ≤ 1024 ⌝ }
+    requires { ⌜ d .first + d .count ≤ pagesInSpace ⌝ }
     ensures { λ r. ⌜ r ≡ keepRange d e ⌝ }
 {
     if overlaps(d, e) {
@@ -98,7 +102,7 @@ fn keep_range(d: Removal, e: RangeEntry) -> RangeEntry
 
 // Drops the page entries that the record names.
 fn keep_pages(u: Unit, d: Removal) -> Unit
-    requires { ⌜ d .first + d .count ≤ 1024 ⌝ }
+    requires { ⌜ d .first + d .count ≤ pagesInSpace ⌝ }
     ensures { λ r. ⌜ r ≡ withPages u (imap (λ k e. keepPage d e) 0 (u .pages)) ⌝ }
 {
     let mut v = u;
@@ -112,7 +116,7 @@ fn keep_pages(u: Unit, d: Removal) -> Unit
 
 // Drops the range entries that overlap the record.
 fn keep_ranges(u: Unit, d: Removal) -> Unit
-    requires { ⌜ d .first + d .count ≤ 1024 ⌝ }
+    requires { ⌜ d .first + d .count ≤ pagesInSpace ⌝ }
     ensures { λ r. ⌜ r ≡ withRanges u (imap (λ k e. keepRange d e) 0 (u .ranges)) ⌝ }
 {
     let mut v = u;
@@ -126,23 +130,23 @@ fn keep_ranges(u: Unit, d: Removal) -> Unit
 
 // The last used entry, or none where the record drops it.
 fn keep_last(u: Unit, d: Removal) -> u32
-    requires { ⌜ d .first + d .count ≤ 1024 ⌝ }
+    requires { ⌜ d .first + d .count ≤ pagesInSpace ⌝ }
     ensures { λ r. ⌜ r ≡ keepLast d (u .ranges) (u .last) ⌝ }
 {
     let k = u.last;
-    if 32 <= k {
+    if RANGE_PLACES <= k {
         return k;
     }
     let e = u.ranges[k as usize];
     if overlaps(d, e) {
-        return 32;
+        return NONE_USED;
     }
     k
 }
 
 // What one record leaves of the unit.
 fn drop_named(u: Unit, d: Removal) -> Unit
-    requires { ⌜ d .first + d .count ≤ 1024 ⌝ }
+    requires { ⌜ d .first + d .count ≤ pagesInSpace ⌝ }
     ensures { λ r. ⌜ r ≡ dropped d u ⌝ }
 {
     let last = keep_last(u, d);
@@ -176,7 +180,7 @@ pub fn emptied(seen: u32) -> Unit
     Unit {
         pages,
         ranges,
-        last: 32,
+        last: NONE_USED,
         next: 0,
         seen,
     }
@@ -184,7 +188,7 @@ pub fn emptied(seen: u32) -> Unit
 
 // What the records above seen, up to number c, leave of the unit.
 fn drop_unseen(u: Unit, control: &[u32], seen: u32, c: u32) -> Unit
-    requires { ⌜ length (now control) ≡ 195 ⌝ }
+    requires { ⌜ length (now control) ≡ controlWords ⌝ }
     requires { ⌜ lawfulControl (now control) ≡ true ⌝ }
     requires { ⌜ c ≡ removals (now control) ⌝ }
     requires { ⌜ seen ≤ c ⌝ }
@@ -202,14 +206,14 @@ fn drop_unseen(u: Unit, control: &[u32], seen: u32, c: u32) -> Unit
 
 // The unit after catching up.
 pub fn caught_up(u: Unit, control: &[u32]) -> Unit
-    requires { ⌜ length (now control) ≡ 195 ⌝ }
+    requires { ⌜ length (now control) ≡ controlWords ⌝ }
     requires { ⌜ lawfulControl (now control) ≡ true ⌝ }
     requires { ⌜ u .seen ≤ removals (now control) ⌝ }
     ensures { λ r. ⌜ r ≡ caughtUp (now (control .entry)) u ⌝ }
 {
     let c = control::removal_count(control);
     let seen = u.seen;
-    if 64 < c - seen {
+    if PLACES < c - seen {
         return emptied(c);
     }
     let mut v = drop_unseen(u, control, seen, c);

@@ -2,14 +2,25 @@
 ghost use mathlib.Core.Path.{_≡_};
 ghost use Prim.Native.Nat.{ℕ, _-_, _≤_, _<_};
 ghost use lib.Dec.{ltb};
+ghost use Rattle.words.specs.Sizes.{pagesInSpace};
 ghost use Rattle.words.specs.Searches.{allFrom, every};
+ghost use Rattle.blocks.specs.FrameWords.{largestPool};
 ghost use Rattle.history.specs.Units.{frameBy, sitsAt, pageEntryOk, rangeEntryOk, lastOk, unitOk};
 ghost use Rattle.invalidation.specs.Entries.{zeroPage, zeroRange};
+use blocks::LARGEST_POOL;
+use history::LAST_PLACE;
+use history::NONE_USED;
+use history::PAGE_PLACES;
 use history::PageEntry;
+use history::RANGE_PLACES;
 use history::RangeEntry;
 use history::Unit;
 use ranges::page_words::frame_at;
+use runs::LARGEST_RIGHTS;
 use runs::Page;
+use words::LAST_PAGE;
+use words::LAST_SPACE;
+use words::PAGES;
 
 // Whether every field of the page entry is zero.
 fn zero_page(e: PageEntry) -> bool
@@ -34,7 +45,7 @@ fn zero_page(e: PageEntry) -> bool
 fn sits_at(k: u32, p: u32) -> bool
     ensures { λ r. ⌜ r ≡ sitsAt k p ⌝ }
 {
-    p % 64 == k
+    p % PAGE_PLACES == k
 }
 
 // The page entry at place k.
@@ -44,19 +55,19 @@ fn page_entry_ok(k: u32, e: PageEntry) -> bool
     if e.valid != 1 {
         return zero_page(e);
     }
-    if 3 < e.space {
+    if LAST_SPACE < e.space {
         return false;
     }
-    if 1023 < e.page {
+    if LAST_PAGE < e.page {
         return false;
     }
     if !sits_at(k, e.page) {
         return false;
     }
-    if 4096 <= e.frame {
+    if LARGEST_POOL <= e.frame {
         return false;
     }
-    e.rights <= 7
+    e.rights <= LARGEST_RIGHTS
 }
 
 // Whether every field of the range entry is zero.
@@ -84,14 +95,14 @@ fn zero_range(e: RangeEntry) -> bool
 // Whether each page from BASE up to LIMIT has a frame below 4,096. The frames ascend with the pages, so the first and the last decide.
 fn frames_fit(base: u32, limit: u32, offset: u32) -> bool
     requires { ⌜ base < limit ⌝ }
-    requires { ⌜ limit ≤ 1024 ⌝ }
-    ensures { λ r. ⌜ r ≡ allFrom (limit - base) base (λ p. ltb (frameBy offset p) 4096) ⌝ }
+    requires { ⌜ limit ≤ pagesInSpace ⌝ }
+    ensures { λ r. ⌜ r ≡ allFrom (limit - base) base (λ p. ltb (frameBy offset p) largestPool) ⌝ }
 {
     let f = frame_at(Page(base), offset);
-    if 4096 <= f.0 {
+    if LARGEST_POOL <= f.0 {
         return false;
     }
-    f.0 + (limit - base) <= 4096
+    f.0 + (limit - base) <= LARGEST_POOL
 }
 
 // A range entry, at any place.
@@ -101,19 +112,19 @@ fn range_entry_ok(e: RangeEntry) -> bool
     if e.valid != 1 {
         return zero_range(e);
     }
-    if 3 < e.space {
+    if LAST_SPACE < e.space {
         return false;
     }
     if e.limit <= e.base {
         return false;
     }
-    if 1024 < e.limit {
+    if PAGES < e.limit {
         return false;
     }
     if !frames_fit(e.base, e.limit, e.offset) {
         return false;
     }
-    e.rights <= 7
+    e.rights <= LARGEST_RIGHTS
 }
 
 fn pages_ok(u: Unit) -> bool
@@ -145,10 +156,10 @@ fn last_ok(u: Unit) -> bool
     ensures { λ r. ⌜ r ≡ lastOk (u .ranges) (u .last) ⌝ }
 {
     let k = u.last;
-    if k == 32 {
+    if k == NONE_USED {
         return true;
     }
-    if 32 <= k {
+    if RANGE_PLACES <= k {
         return false;
     }
     let e = u.ranges[k as usize];
@@ -168,5 +179,5 @@ pub fn unit_ok(u: Unit) -> bool
     if !last_ok(u) {
         return false;
     }
-    u.next <= 31
+    u.next <= LAST_PLACE
 }

@@ -7,12 +7,13 @@ use native.Mathlib.Omega.{arith}
 use lib.Dec.{eqb}
 use lib.ListN.{length}
 use borrow.Author.Tests.{eqb-true, not-false}
+use Rattle.words.specs.Sizes.{pagesInSpace}
 use Rattle.words.specs.declared.Outcome.{Outcome}
 use Rattle.words.specs.Refusals.{numbers, NoneApplies, next}
 use Rattle.words.specs.Rows.{accepted, after, refusalOrder, among, inOrder}
 use Rattle.words.proofs.Cases.{and-true}
 use Rattle.words.proofs.RowLaws.{accepted-leaves, accepted-none}
-use Rattle.control.specs.Control.{removals, recordSpace, recordFirst, recordCount, closedMask, appended}
+use Rattle.control.specs.Control.{controlWords, logPlaces, removals, recordSpace, recordFirst, recordCount, closedMask, appended}
 use Rattle.control.proofs.ControlLaws.{mask-length, mask-removals, appended-removals, appended-space, appended-first, appended-count}
 use Rattle.layout.specs.declared.TableCall.{TableCall}
 use Rattle.layout.specs.declared.TableCall.the-variants.{SetUpPool, Open, Close, Map, Unmap, Protect, Coverage}
@@ -44,7 +45,7 @@ module _ (c : TableCall) (T : Tables) (o : Outcome) (T′ : Tables) (d : Called 
 -- an accepted call was lent a control buffer of its length
 lent-long : (c : TableCall) (T : Tables) → NoneApplies (row T c .refusals) → length (T .control) ≡ 195
 unfolding row after rightLengths
-lent-long c T (next a more) = eqb-true _ _ (and-true (eqb (length (T .control)) 195) _ (not-false _ a) .0)
+lent-long c T (next a more) = eqb-true _ _ (and-true (eqb (length (T .control)) controlWords) _ (not-false _ a) .0)
 
 -- the record is counted
 counted : (c : TableCall) (s first n : ℕ) → Removes c s first n → (T : Tables) → length (T .control) ≡ 195 → removals (row T c .new .control) ≡ removals (T .control) + 1
@@ -55,9 +56,9 @@ counted c s first n Statements.protect T long = omega (arith, appended-removals 
 
 -- and stands in its place
 record Placed (c : List ℕ) (s first n : ℕ) : Type 0 where
-  space : recordSpace c (removals c % 64) ≡ s
-  first-page : recordFirst c (removals c % 64) ≡ first
-  page-count : recordCount c (removals c % 64) ≡ n
+  space : recordSpace c (removals c % logPlaces) ≡ s
+  first-page : recordFirst c (removals c % logPlaces) ≡ first
+  page-count : recordCount c (removals c % logPlaces) ≡ n
 
 placed : (c : List ℕ) → length c ≡ 195 → (s first n : ℕ) → Placed (appended c s first n) s first n
 placed c long s first n =
@@ -69,7 +70,7 @@ placed c long s first n =
 
 new-placed : (c : TableCall) (s first n : ℕ) → Removes c s first n → (T : Tables) → length (T .control) ≡ 195 → Placed (row T c .new .control) s first n
 unfolding row after sizedRow tablesOf plainOf closePlain unmapPlain protectPlain closedMask
-new-placed c s first n Statements.close T long = placed (closedMask (T .control) s) (mask-length _ _ ∙ long) s 0 1024
+new-placed c s first n Statements.close T long = placed (closedMask (T .control) s) (mask-length _ _ ∙ long) s 0 pagesInSpace
 new-placed c s first n Statements.unmap T long = placed (T .control) long s first n
 new-placed c s first n Statements.protect T long = placed (T .control) long s first n
 

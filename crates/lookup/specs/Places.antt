@@ -5,12 +5,12 @@ use Prim.Native.Nat.{ℕ}
 use lib.Dec.{ltb}
 use lib.ListN.{getD}
 use Rattle.history.specs.declared.Unit.{Unit as TlbUnit}
-use Rattle.history.specs.Units.{noRange}
+use Rattle.history.specs.Units.{rangeEntries, noRange}
 use Rattle.history.specs.Translate.{covers}
 
 -- the place, or none
 unfoldable pub placeOr : ℕ → Option ℕ
-placeOr k = elim (ltb k 32) [ true ↦ some k | false ↦ none ]
+placeOr k = elim (ltb k rangeEntries) [ true ↦ some k | false ↦ none ]
 
 -- the range entry at a place covers page p
 unfoldable pub rangeCovers : TlbUnit → ℕ → ℕ → ℕ → Bool

@@ -6,6 +6,8 @@ use crate::entries::covering_place;
 use crate::entries::holds_page;
 use blocks::Frame;
 use history::Finding;
+use history::PAGE_PLACES;
+use history::RANGE_PLACES;
 use history::Unit;
 use ranges::page_words::frame_at;
 use ranges::page_words::frame_in;
@@ -18,13 +20,13 @@ pub fn find(u: Unit, s: u32, p: Page, w: u32) -> Finding
     ensures { λ r. ⌜ r ≡ finding u s (p .0) w ⌝ }
 {
     let page = p.0;
-    let at = (page % 64) as usize;
+    let at = (page % PAGE_PLACES) as usize;
     let e = u.pages[at];
     if holds_page(e, s, p) {
         return Finding::ByPage(e);
     }
     let k = covering_place(u, s, p);
-    if k < 32 {
+    if k < RANGE_PLACES {
         let r = u.ranges[k as usize];
         return Finding::ByRange { place: k, entry: r };
     }

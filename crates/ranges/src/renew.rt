@@ -3,8 +3,10 @@ ghost use mathlib.Core.Path.{_≡_};
 ghost use Prim.Native.Nat.{_+_, _≤_};
 ghost use lib.ListN.{length};
 ghost use lib.Seq.{sets};
+ghost use Rattle.words.specs.Sizes.{pagesInSpace};
 ghost use Rattle.runs.specs.Walk.{entryOf, ended, withBits, rangeWords};
 ghost use Rattle.runs.specs.Steps.{Marked, EndedRun, zeroFrom};
+ghost use Rattle.runs.specs.Runs.{rangeWordsInSpace, wordsInRange};
 use crate::page_words::bit_word;
 use crate::page_words::frame_in;
 use crate::page_words::offset;
@@ -13,12 +15,15 @@ use crate::page_words::rights_in;
 use crate::walk::goes_on;
 use crate::walk::joined;
 use crate::walk::over;
+use runs::ENTRY_WORDS;
 use runs::Page;
+use runs::SMALLEST_RANGE;
+use words::PAGES;
 
 // Sets or clears the range bit of n pages from page a on.
 fn mark(part: &mut [u32], a: Page, n: u32, bit: bool)
     requires { ⌜ a .0 + n ≤ length (now part) ⌝ }
-    requires { ⌜ length (now part) ≡ 1024 ⌝ }
+    requires { ⌜ length (now part) ≡ pagesInSpace ⌝ }
     ensures { λ _. ⌜ Marked bit (now (part .entry)) (a .0) n (now (part .exit)) ⌝ }
 {
     let first = a.0;
@@ -32,8 +37,8 @@ fn mark(part: &mut [u32], a: Page, n: u32, bit: bool)
 
 // Writes the entry of the run of n pages up to `limit`, left out, whose last word is v.
 fn put(ranges: &mut [u32], at: usize, limit: u32, n: u32, v: u32)
-    requires { ⌜ length (now ranges) ≡ 512 ⌝ }
-    requires { ⌜ at + 4 ≤ 512 ⌝ }
+    requires { ⌜ length (now ranges) ≡ rangeWordsInSpace ⌝ }
+    requires { ⌜ at + wordsInRange ≤ rangeWordsInSpace ⌝ }
     requires { ⌜ (n ≤ limit) × (1 ≤ limit) ⌝ }
     ensures { λ _. ⌜ now (ranges .exit) ≡ sets (now (ranges .entry)) at (entryOf limit n v) ⌝ }
 {
@@ -53,22 +58,22 @@ fn end_run(
     n: u32,
     v: u32,
 ) -> usize
-    requires { ⌜ length (now part) ≡ 1024 ⌝ }
-    requires { ⌜ length (now ranges) ≡ 512 ⌝ }
-    requires { ⌜ at + length (ended on limit n v) ≤ 512 ⌝ }
-    requires { ⌜ (n ≤ limit) × (limit ≤ 1024) ⌝ }
+    requires { ⌜ length (now part) ≡ pagesInSpace ⌝ }
+    requires { ⌜ length (now ranges) ≡ rangeWordsInSpace ⌝ }
+    requires { ⌜ at + length (ended on limit n v) ≤ rangeWordsInSpace ⌝ }
+    requires { ⌜ (n ≤ limit) × (limit ≤ pagesInSpace) ⌝ }
     ensures { λ r. ⌜ EndedRun (now (part .entry)) (now (ranges .entry)) on at limit n v r (now (part .exit)) (now (ranges .exit)) ⌝ }
 {
     if on {
         return at;
     }
-    if n < 8 {
+    if n < SMALLEST_RANGE {
         mark(part, Page(limit - n), n, false);
         return at;
     }
     mark(part, Page(limit - n), n, true);
     put(ranges, at, limit, n, v);
-    at + 4
+    at + ENTRY_WORDS
 }
 
 // Clears the range words from place `at` on.
@@ -85,8 +90,8 @@ fn zero_from(ranges: &mut [u32], at: usize)
 
 // Rebuilds a space's range bits and range words from its frames and rights.
 pub fn renew(part: &mut [u32], ranges: &mut [u32])
-    requires { ⌜ length (now part) ≡ 1024 ⌝ }
-    requires { ⌜ length (now ranges) ≡ 512 ⌝ }
+    requires { ⌜ length (now part) ≡ pagesInSpace ⌝ }
+    requires { ⌜ length (now ranges) ≡ rangeWordsInSpace ⌝ }
     ensures { λ _. ⌜ now (part .exit) ≡ withBits (now (part .entry)) ⌝ }
     ensures { λ _. ⌜ now (ranges .exit) ≡ rangeWords (now (part .entry)) ⌝ }
 {
@@ -94,7 +99,7 @@ pub fn renew(part: &mut [u32], ranges: &mut [u32])
     let mut v: u32 = 0;
     let mut at: usize = 0;
     let mut i: u32 = 0;
-    while i < 1024 {
+    while i < PAGES {
         let w = part[i as usize];
         let on = joined(v, w);
         at = end_run(part, ranges, on, at, i, n, v);
@@ -104,6 +109,6 @@ pub fn renew(part: &mut [u32], ranges: &mut [u32])
         v = along.last;
         i += 1 + along.pages;
     }
-    at = end_run(part, ranges, false, at, 1024, n, v);
+    at = end_run(part, ranges, false, at, PAGES, n, v);
     zero_from(ranges, at);
 }

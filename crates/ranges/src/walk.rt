@@ -3,13 +3,17 @@ ghost use mathlib.Core.Path.{_≡_};
 ghost use mathlib.Core.Bool.{true};
 ghost use Prim.Native.Nat.{_+_, _≤_};
 ghost use lib.ListN.{length};
+ghost use Rattle.words.specs.Sizes.{pagesInSpace};
 ghost use Rattle.runs.specs.PageWords.{mapped};
 ghost use Rattle.runs.specs.Walk.{joins, goesOn};
 ghost use Rattle.runs.specs.Steps.{Empty, Onward, Along};
 use crate::page_words::frame_in;
 use crate::page_words::mapped;
 use crate::page_words::rights_in;
+use blocks::LAST_FRAME;
+use runs::PAGE_WORDS;
 use runs::Page;
+use words::PAGES;
 use words::scans::counts_beside;
 use words::scans::zero_to;
 
@@ -34,7 +38,7 @@ pub fn joined(v: u32, w: u32) -> bool
 
 // The running length at w, where it is n at v.
 pub fn goes_on(n: u32, v: u32, w: u32) -> u32
-    requires { ⌜ n ≤ 1024 ⌝ }
+    requires { ⌜ n ≤ pagesInSpace ⌝ }
     ensures { λ r. ⌜ r ≡ goesOn n v w ⌝ }
 {
     if joined(v, w) {
@@ -60,14 +64,14 @@ pub fn least(a: u32, b: u32) -> u32
 // How many pages from page b on extend the run of word v before them, by words that count up from it. The promise leaves how far.
 // The scan reads two stretches side by side, for the check of the tables; here both are the same.
 fn onward_from(part: &[u32], b: Page, v: u32) -> u32
-    requires { ⌜ length (now part) ≡ 1024 ⌝ }
-    requires { ⌜ b .0 ≤ 1024 ⌝ }
+    requires { ⌜ length (now part) ≡ pagesInSpace ⌝ }
+    requires { ⌜ b .0 ≤ pagesInSpace ⌝ }
     requires { ⌜ mapped v ≡ true ⌝ }
     ensures { λ r. ⌜ Onward (now (part .entry)) (b .0) v r ⌝ }
 {
     let f = frame_in(v);
     let from = b.0 as usize;
-    let most = least(1024 - b.0, 4095 - f.0);
+    let most = least(PAGES - b.0, LAST_FRAME - f.0);
     counts_beside(part, from, v + 1, part, from, v + 1, most as usize) as u32
 }
 
@@ -92,13 +96,13 @@ fn nowhere(w: u32) -> Stretch
 
 // The unmapped pages from page b on, after a word 0.
 fn over_empty(part: &[u32], b: Page) -> Stretch
-    requires { ⌜ length (now part) ≡ 1024 ⌝ }
-    requires { ⌜ b .0 ≤ 1024 ⌝ }
+    requires { ⌜ length (now part) ≡ pagesInSpace ⌝ }
+    requires { ⌜ b .0 ≤ pagesInSpace ⌝ }
     ensures { λ r. ⌜ Empty (now (part .entry)) (b .0) (r .pages) ⌝ }
     ensures { λ r. ⌜ (r .mapped ≡ 0) × (r .last ≡ 0) ⌝ }
 {
     let from = b.0 as usize;
-    let end = zero_to(part, from, 1024);
+    let end = zero_to(part, from, PAGE_WORDS);
     Stretch {
         pages: (end - from) as u32,
         mapped: 0,
@@ -108,8 +112,8 @@ fn over_empty(part: &[u32], b: Page) -> Stretch
 
 // The pages from page b on, after word w, that a walk passes at once: unmapped ones, or those that extend the run of w.
 pub fn over(part: &[u32], b: Page, w: u32) -> Stretch
-    requires { ⌜ length (now part) ≡ 1024 ⌝ }
-    requires { ⌜ b .0 ≤ 1024 ⌝ }
+    requires { ⌜ length (now part) ≡ pagesInSpace ⌝ }
+    requires { ⌜ b .0 ≤ pagesInSpace ⌝ }
     ensures { λ r. ⌜ Along (now (part .entry)) (b .0) w (r .pages) (r .mapped) ⌝ }
     ensures { λ r. ⌜ r .last ≡ w + r .mapped ⌝ }
 {

@@ -2,21 +2,28 @@
 ghost use mathlib.Core.Path.{_≡_};
 ghost use lib.Dec.{eqb};
 ghost use lib.ListN.{length};
+ghost use Rattle.words.specs.Sizes.{largestWord};
 ghost use Rattle.words.specs.Refusals.{decide};
 ghost use Rattle.words.specs.Rows.{refusal, numberOf};
-ghost use Rattle.control.specs.Control.{removals};
+ghost use Rattle.control.specs.Control.{controlWords, removals};
 ghost use Rattle.layout.specs.declared.TableCall.the-variants.{SetUpPool, Open, Close, Map, Unmap, Protect};
 ghost use Rattle.layout.specs.Answers.{outcome};
 ghost use Rattle.layout.specs.Tables.{tables};
 ghost use Rattle.layout.specs.Calls.{row};
 ghost use Rattle.refusals.specs.Parts.{ofTables, ofSpan, shared};
+use blocks::LARGEST_POOL;
 use layout::Answer;
+use runs::LARGEST_RIGHTS;
+use runs::PAGE_WORDS;
 use tablecheck::all_mapped;
 use tablecheck::any_mapped;
 use tablecheck::is_span;
 use tablecheck::right_lengths;
 use tablecheck::tables_sound;
+use words::LARGEST_WORD;
+use words::LAST_SPACE;
 use words::Outcome;
+use words::PAGES;
 
 // The number of a refusal, with zeros.
 fn refusal(number: u32) -> Outcome
@@ -75,13 +82,13 @@ fn judge_tables(control: &[u32], frames: &[u32], pages: &[u32], ranges: &[u32]) 
 
 // A span of an open space, with rights: 5, 6, 8, 10.
 fn judge_span(control: &[u32], space: u32, first: u32, count: u32, rights: u32) -> Answer
-    requires { ⌜ length (now control) ≡ 195 ⌝ }
+    requires { ⌜ length (now control) ≡ controlWords ⌝ }
     ensures { λ r. ⌜ outcome r ≡ refusal (decide (ofSpan (now (control .entry)) space first count rights) 0) ⌝ }
 {
-    if 3 < space {
+    if LAST_SPACE < space {
         return Answer::NoSuchSpace;
     }
-    if 7 < rights {
+    if LARGEST_RIGHTS < rights {
         return Answer::WrongRights;
     }
     if !is_span(first, count) {
@@ -119,10 +126,10 @@ pub fn judge_shared(
 
 // Whether the removal numbers are used up.
 fn no_number_left(control: &[u32]) -> bool
-    requires { ⌜ length (now control) ≡ 195 ⌝ }
-    ensures { λ r. ⌜ r ≡ eqb (removals (now (control .entry))) 4294967295 ⌝ }
+    requires { ⌜ length (now control) ≡ controlWords ⌝ }
+    ensures { λ r. ⌜ r ≡ eqb (removals (now (control .entry))) largestWord ⌝ }
 {
-    control::removal_count(control) == 4294967295
+    control::removal_count(control) == LARGEST_WORD
 }
 
 pub fn judge_set_up(
@@ -140,7 +147,7 @@ pub fn judge_set_up(
     if pool < 1 {
         return Answer::WrongPoolSize;
     }
-    if 4096 < pool {
+    if LARGEST_POOL < pool {
         return Answer::WrongPoolSize;
     }
     Answer::Done {
@@ -163,7 +170,7 @@ pub fn judge_open(
     if o.number != 0 {
         return judged;
     }
-    if 3 < space {
+    if LAST_SPACE < space {
         return Answer::NoSuchSpace;
     }
     if control::is_open(control::open_mask(control), space) {
@@ -181,7 +188,7 @@ pub fn judge_close(
 ) -> Answer
     ensures { λ r. ⌜ outcome r ≡ refusal (numberOf (row (tables (now (control .entry)) (now (frames .entry)) (now (pages .entry)) (now (ranges .entry))) (Close space))) ⌝ }
 {
-    let judged = judge_shared(control, frames, pages, ranges, space, 0, 1024, 0);
+    let judged = judge_shared(control, frames, pages, ranges, space, 0, PAGES, 0);
     let o = outcome(judged);
     if o.number != 0 {
         return judged;
@@ -209,8 +216,8 @@ pub fn judge_map(
     if o.number != 0 {
         return judged;
     }
-    let a = 1024 * (space as usize);
-    let e = a + 1024;
+    let a = PAGE_WORDS * (space as usize);
+    let e = a + PAGE_WORDS;
     if any_mapped(&pages[a..e], first, count) {
         return Answer::AlreadyMapped;
     }
@@ -237,8 +244,8 @@ pub fn judge_protect(
     if o.number != 0 {
         return judged;
     }
-    let a = 1024 * (space as usize);
-    let e = a + 1024;
+    let a = PAGE_WORDS * (space as usize);
+    let e = a + PAGE_WORDS;
     if !all_mapped(&pages[a..e], first, count) {
         return Answer::NotMapped;
     }

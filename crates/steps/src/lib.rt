@@ -7,16 +7,20 @@ ghost use mathlib.Core.Path.{_≡_};
 ghost use mathlib.Core.Bool.{true};
 ghost use Prim.Native.Nat.{_+_, _≤_};
 ghost use lib.ListN.{length};
+ghost use Rattle.words.specs.Sizes.{pagesInSpace, lastSpace};
 ghost use Rattle.words.specs.Counts.{count};
 ghost use Rattle.blocks.specs.FrameWords.{lawful, ownersOf, freeIn, frameWords};
 ghost use Rattle.blocks.specs.Choice.{framesFor, blockCount};
 ghost use Rattle.blocks.specs.Owners.{give};
-ghost use Rattle.layout.specs.Tables.{spacePages, ownerAt};
+ghost use Rattle.layout.specs.Tables.{pageBufferWords, rangeBufferWords, spacePages, ownerAt};
 ghost use Rattle.layout.specs.Changes.{Rewritten, mapWords, unmapWords, mappedIn, protectWords, differing};
 use crate::mapping::map_space;
 use crate::protecting::protect_space;
 use crate::unmapping::unmap_space;
+use runs::PAGE_WORDS;
 use runs::Page;
+use runs::RANGE_WORDS;
+use words::PAGES;
 
 // Maps n pages from `first` on to frames that the map rule takes; how many blocks were taken.
 pub fn map_pages(
@@ -31,20 +35,20 @@ pub fn map_pages(
 ) -> u32
     requires { ⌜ lawful pool (now frames) ≡ true ⌝ }
     requires { ⌜ n ≤ count pool (freeIn (now frames)) ⌝ }
-    requires { ⌜ length (now pages) ≡ 4096 ⌝ }
-    requires { ⌜ length (now ranges) ≡ 2048 ⌝ }
-    requires { ⌜ space ≤ 3 ⌝ }
-    requires { ⌜ first .0 + n ≤ 1024 ⌝ }
+    requires { ⌜ length (now pages) ≡ pageBufferWords ⌝ }
+    requires { ⌜ length (now ranges) ≡ rangeBufferWords ⌝ }
+    requires { ⌜ space ≤ lastSpace ⌝ }
+    requires { ⌜ first .0 + n ≤ pagesInSpace ⌝ }
     requires { ⌜ rights ≤ 7 ⌝ }
     ensures { λ r. ⌜ r ≡ blockCount pool (freeIn (now (frames .entry))) n ⌝ }
     ensures { λ _. ⌜ now (frames .exit) ≡ frameWords pool (give (ownersOf (now (frames .entry))) (ownerAt space (first .0)) (framesFor pool (freeIn (now (frames .entry))) n)) ⌝ }
     ensures { λ _. ⌜ Rewritten space (mapWords (spacePages (now (pages .entry)) space) (first .0) n rights (framesFor pool (freeIn (now (frames .entry))) n)) (now (pages .entry)) (now (ranges .entry)) (now (pages .exit)) (now (ranges .exit)) ⌝ }
 {
-    let a = 1024 * (space as usize);
-    let e = a + 1024;
-    let b = 512 * (space as usize);
-    let f = b + 512;
-    let owner = 1 + 1024 * space + first.0;
+    let a = PAGE_WORDS * (space as usize);
+    let e = a + PAGE_WORDS;
+    let b = RANGE_WORDS * (space as usize);
+    let f = b + RANGE_WORDS;
+    let owner = 1 + PAGES * space + first.0;
     map_space(
         frames,
         &mut pages[a..e],
@@ -65,17 +69,17 @@ pub fn unmap_pages(
     first: Page,
     count: u32,
 ) -> u32
-    requires { ⌜ length (now pages) ≡ 4096 ⌝ }
-    requires { ⌜ length (now ranges) ≡ 2048 ⌝ }
-    requires { ⌜ space ≤ 3 ⌝ }
-    requires { ⌜ first .0 + count ≤ 1024 ⌝ }
+    requires { ⌜ length (now pages) ≡ pageBufferWords ⌝ }
+    requires { ⌜ length (now ranges) ≡ rangeBufferWords ⌝ }
+    requires { ⌜ space ≤ lastSpace ⌝ }
+    requires { ⌜ first .0 + count ≤ pagesInSpace ⌝ }
     ensures { λ r. ⌜ r ≡ mappedIn (spacePages (now (pages .entry)) space) (first .0) count ⌝ }
     ensures { λ _. ⌜ Rewritten space (unmapWords (spacePages (now (pages .entry)) space) (first .0) count) (now (pages .entry)) (now (ranges .entry)) (now (pages .exit)) (now (ranges .exit)) ⌝ }
 {
-    let a = 1024 * (space as usize);
-    let e = a + 1024;
-    let b = 512 * (space as usize);
-    let f = b + 512;
+    let a = PAGE_WORDS * (space as usize);
+    let e = a + PAGE_WORDS;
+    let b = RANGE_WORDS * (space as usize);
+    let f = b + RANGE_WORDS;
     unmap_space(&mut pages[a..e], &mut ranges[b..f], first, count)
 }
 
@@ -88,17 +92,17 @@ pub fn protect_pages(
     count: u32,
     rights: u32,
 ) -> u32
-    requires { ⌜ length (now pages) ≡ 4096 ⌝ }
-    requires { ⌜ length (now ranges) ≡ 2048 ⌝ }
-    requires { ⌜ space ≤ 3 ⌝ }
-    requires { ⌜ first .0 + count ≤ 1024 ⌝ }
+    requires { ⌜ length (now pages) ≡ pageBufferWords ⌝ }
+    requires { ⌜ length (now ranges) ≡ rangeBufferWords ⌝ }
+    requires { ⌜ space ≤ lastSpace ⌝ }
+    requires { ⌜ first .0 + count ≤ pagesInSpace ⌝ }
     requires { ⌜ rights ≤ 7 ⌝ }
     ensures { λ r. ⌜ r ≡ differing (spacePages (now (pages .entry)) space) (first .0) count rights ⌝ }
     ensures { λ _. ⌜ Rewritten space (protectWords (spacePages (now (pages .entry)) space) (first .0) count rights) (now (pages .entry)) (now (ranges .entry)) (now (pages .exit)) (now (ranges .exit)) ⌝ }
 {
-    let a = 1024 * (space as usize);
-    let e = a + 1024;
-    let b = 512 * (space as usize);
-    let f = b + 512;
+    let a = PAGE_WORDS * (space as usize);
+    let e = a + PAGE_WORDS;
+    let b = RANGE_WORDS * (space as usize);
+    let f = b + RANGE_WORDS;
     protect_space(&mut pages[a..e], &mut ranges[b..f], first, count, rights)
 }

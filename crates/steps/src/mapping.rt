@@ -4,10 +4,12 @@ ghost use mathlib.Core.Bool.{true};
 ghost use mathlib.Core.List.{[], _∷_};
 ghost use Prim.Native.Nat.{_+_, _^_, _≤_};
 ghost use lib.ListN.{length};
+ghost use Rattle.words.specs.Sizes.{pagesInSpace};
 ghost use Rattle.words.specs.Counts.{count};
-ghost use Rattle.blocks.specs.FrameWords.{ownersOf, freeIn, lawful, frameWords};
+ghost use Rattle.blocks.specs.FrameWords.{largestPool, ownersOf, freeIn, lawful, frameWords};
 ghost use Rattle.blocks.specs.Choice.{framesOf, framesFor, blockCount};
 ghost use Rattle.blocks.specs.Owners.{give};
+ghost use Rattle.runs.specs.Runs.{rangeWordsInSpace};
 ghost use Rattle.layout.specs.Changes.{mapWords};
 ghost use Rattle.steps.specs.Steps.{MapStep};
 use blocks::Block;
@@ -21,10 +23,10 @@ use runs::Page;
 
 // Writes the words of the pages from the first on, one for each frame of the block.
 fn write_block(part: &mut [u32], first: Page, rights: u32, b: Block)
-    requires { ⌜ length (now part) ≡ 1024 ⌝ }
+    requires { ⌜ length (now part) ≡ pagesInSpace ⌝ }
     requires { ⌜ b .order ≤ 10 ⌝ }
-    requires { ⌜ b .start .0 + 2 ^ (b .order) ≤ 4096 ⌝ }
-    requires { ⌜ first .0 + 2 ^ (b .order) ≤ 1024 ⌝ }
+    requires { ⌜ b .start .0 + 2 ^ (b .order) ≤ largestPool ⌝ }
+    requires { ⌜ first .0 + 2 ^ (b .order) ≤ pagesInSpace ⌝ }
     requires { ⌜ rights ≤ 7 ⌝ }
     ensures { λ _. ⌜ now (part .exit) ≡ mapWords (now (part .entry)) (first .0) (2 ^ (b .order)) rights (framesOf (b ∷ [])) ⌝ }
 {
@@ -52,11 +54,11 @@ fn map_blocks(
     rights: u32,
 ) -> u32
     requires { ⌜ lawful pool (now frames) ≡ true ⌝ }
-    requires { ⌜ length (now part) ≡ 1024 ⌝ }
+    requires { ⌜ length (now part) ≡ pagesInSpace ⌝ }
     requires { ⌜ n ≤ count pool (freeIn (now frames)) ⌝ }
     requires { ⌜ 1 ≤ owner ⌝ }
     requires { ⌜ owner + n ≤ 4097 ⌝ }
-    requires { ⌜ first .0 + n ≤ 1024 ⌝ }
+    requires { ⌜ first .0 + n ≤ pagesInSpace ⌝ }
     requires { ⌜ rights ≤ 7 ⌝ }
     ensures { λ r. ⌜ r ≡ blockCount pool (freeIn (now (frames .entry))) n ⌝ }
     ensures { λ _. ⌜ now (frames .exit) ≡ frameWords pool (give (ownersOf (now (frames .entry))) owner (framesFor pool (freeIn (now (frames .entry))) n)) ⌝ }
@@ -90,12 +92,12 @@ pub fn map_space(
     rights: u32,
 ) -> u32
     requires { ⌜ lawful pool (now frames) ≡ true ⌝ }
-    requires { ⌜ length (now part) ≡ 1024 ⌝ }
-    requires { ⌜ length (now ranges) ≡ 512 ⌝ }
+    requires { ⌜ length (now part) ≡ pagesInSpace ⌝ }
+    requires { ⌜ length (now ranges) ≡ rangeWordsInSpace ⌝ }
     requires { ⌜ n ≤ count pool (freeIn (now frames)) ⌝ }
     requires { ⌜ 1 ≤ owner ⌝ }
     requires { ⌜ owner + n ≤ 4097 ⌝ }
-    requires { ⌜ first .0 + n ≤ 1024 ⌝ }
+    requires { ⌜ first .0 + n ≤ pagesInSpace ⌝ }
     requires { ⌜ rights ≤ 7 ⌝ }
     ensures { λ r. ⌜ MapStep pool (now (frames .entry)) (now (part .entry)) owner (first .0) n rights r (now (frames .exit)) (now (part .exit)) (now (ranges .exit)) ⌝ }
 {

@@ -4,8 +4,10 @@ ghost use mathlib.Core.Bool.{false, not};
 ghost use Prim.Native.Nat.{_+_, _≤_};
 ghost use lib.Dec.{eqb};
 ghost use lib.ListN.{length};
+ghost use Rattle.words.specs.Sizes.{pagesInSpace};
 ghost use Rattle.words.specs.Counts.{one-if};
 ghost use Rattle.runs.specs.PageWords.{pageWord, rightsIn, frameIn};
+ghost use Rattle.runs.specs.Runs.{rangeWordsInSpace};
 ghost use Rattle.layout.specs.Changes.{protectWords, differing};
 ghost use Rattle.steps.specs.Steps.{ProtectStep};
 use ranges::page_words::frame_in;
@@ -34,8 +36,8 @@ fn with_rights(rights: u32, w: u32) -> u32
 
 // Gives the words of the span these rights; how many had others.
 fn rewrite(part: &mut [u32], first: Page, count: u32, rights: u32) -> u32
-    requires { ⌜ length (now part) ≡ 1024 ⌝ }
-    requires { ⌜ first .0 + count ≤ 1024 ⌝ }
+    requires { ⌜ length (now part) ≡ pagesInSpace ⌝ }
+    requires { ⌜ first .0 + count ≤ pagesInSpace ⌝ }
     requires { ⌜ rights ≤ 7 ⌝ }
     ensures { λ r. ⌜ r ≡ differing (now (part .entry)) (first .0) count rights ⌝ }
     ensures { λ _. ⌜ now (part .exit) ≡ protectWords (now (part .entry)) (first .0) count rights ⌝ }
@@ -61,9 +63,9 @@ pub fn protect_space(
     count: u32,
     rights: u32,
 ) -> u32
-    requires { ⌜ length (now part) ≡ 1024 ⌝ }
-    requires { ⌜ length (now ranges) ≡ 512 ⌝ }
-    requires { ⌜ first .0 + count ≤ 1024 ⌝ }
+    requires { ⌜ length (now part) ≡ pagesInSpace ⌝ }
+    requires { ⌜ length (now ranges) ≡ rangeWordsInSpace ⌝ }
+    requires { ⌜ first .0 + count ≤ pagesInSpace ⌝ }
     requires { ⌜ rights ≤ 7 ⌝ }
     ensures { λ r. ⌜ ProtectStep (now (part .entry)) (first .0) count rights r (now (part .exit)) (now (ranges .exit)) ⌝ }
 {

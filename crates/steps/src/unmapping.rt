@@ -2,6 +2,8 @@
 ghost use mathlib.Core.Path.{_≡_};
 ghost use Prim.Native.Nat.{_+_, _≤_};
 ghost use lib.ListN.{length};
+ghost use Rattle.words.specs.Sizes.{pagesInSpace};
+ghost use Rattle.runs.specs.Runs.{rangeWordsInSpace};
 ghost use Rattle.layout.specs.Changes.{unmapWords, mappedIn};
 ghost use Rattle.steps.specs.Steps.{UnmapStep};
 use ranges::page_words::one_if_mapped;
@@ -10,8 +12,8 @@ use runs::Page;
 
 // Clears the words of the span; how many pages were mapped.
 fn clear(part: &mut [u32], first: Page, count: u32) -> u32
-    requires { ⌜ length (now part) ≡ 1024 ⌝ }
-    requires { ⌜ first .0 + count ≤ 1024 ⌝ }
+    requires { ⌜ length (now part) ≡ pagesInSpace ⌝ }
+    requires { ⌜ first .0 + count ≤ pagesInSpace ⌝ }
     ensures { λ r. ⌜ r ≡ mappedIn (now (part .entry)) (first .0) count ⌝ }
     ensures { λ _. ⌜ now (part .exit) ≡ unmapWords (now (part .entry)) (first .0) count ⌝ }
 {
@@ -29,9 +31,9 @@ fn clear(part: &mut [u32], first: Page, count: u32) -> u32
 
 // Unmaps the span; how many of its pages were mapped.
 pub fn unmap_space(part: &mut [u32], ranges: &mut [u32], first: Page, count: u32) -> u32
-    requires { ⌜ length (now part) ≡ 1024 ⌝ }
-    requires { ⌜ length (now ranges) ≡ 512 ⌝ }
-    requires { ⌜ first .0 + count ≤ 1024 ⌝ }
+    requires { ⌜ length (now part) ≡ pagesInSpace ⌝ }
+    requires { ⌜ length (now ranges) ≡ rangeWordsInSpace ⌝ }
+    requires { ⌜ first .0 + count ≤ pagesInSpace ⌝ }
     ensures { λ r. ⌜ UnmapStep (now (part .entry)) (first .0) count r (now (part .exit)) (now (ranges .exit)) ⌝ }
 {
     let n = clear(part, first, count);

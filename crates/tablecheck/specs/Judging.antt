@@ -4,6 +4,7 @@ use mathlib.Core.Bool.{Bool, _&&_, _||_, not}
 use mathlib.Core.List.{List}
 use Prim.Native.Nat.{ℕ, _+_, _*_, _<_}
 use lib.ListN.{getD}
+use Rattle.words.specs.Sizes.{pagesInSpace}
 use Rattle.words.specs.Searches.{every}
 use Rattle.runs.specs.PageWords.{mapped}
 use Rattle.runs.specs.Walk.{lawfulRanges}
@@ -25,7 +26,7 @@ unfoldable pub partSound : Bool → List ℕ → ℕ → ℕ → List ℕ → Li
 partSound opened fs F a ws xs = lawfulRanges ws xs && every (pageFits opened fs F) a ws
 
 unfoldable pub spaceSound : ℕ → List ℕ → ℕ → List ℕ → List ℕ → ℕ → Bool
-spaceSound mask fs F ps rs s = partSound (isOpen mask s) fs F (1024 * s) (spacePages ps s) (spaceRanges rs s)
+spaceSound mask fs F ps rs s = partSound (isOpen mask s) fs F (pagesInSpace * s) (spacePages ps s) (spaceRanges rs s)
 
 -- buffers of any lengths: "four buffers with exact lengths", and sound
 unfoldable pub soundBuffers : Tables → Bool

@@ -1,34 +1,40 @@
 // Whether the four lent buffers have their lengths, and are sound.
 ghost use mathlib.Core.Path.{_≡_};
 ghost use lib.ListN.{length};
-ghost use Rattle.layout.specs.Tables.{tables, rightLengths};
+ghost use Rattle.blocks.specs.FrameWords.{frameBufferWords};
+ghost use Rattle.control.specs.Control.{controlWords};
+ghost use Rattle.layout.specs.Tables.{pageBufferWords, rangeBufferWords, tables, rightLengths};
 ghost use Rattle.layout.specs.Sound.{sound};
 ghost use Rattle.tablecheck.specs.Judging.{soundBuffers};
 use crate::walking::walk_spaces;
+use layout::CONTROL_WORDS;
+use layout::FRAME_BUFFER_WORDS;
+use layout::PAGE_BUFFER_WORDS;
+use layout::RANGE_BUFFER_WORDS;
 
 // Whether each buffer has its length.
 pub fn right_lengths(control: &[u32], frames: &[u32], pages: &[u32], ranges: &[u32]) -> bool
     ensures { λ r. ⌜ r ≡ rightLengths (tables (now (control .entry)) (now (frames .entry)) (now (pages .entry)) (now (ranges .entry))) ⌝ }
 {
-    if control.len() != 195 {
+    if control.len() != CONTROL_WORDS {
         return false;
     }
-    if frames.len() != 4096 {
+    if frames.len() != FRAME_BUFFER_WORDS {
         return false;
     }
-    if pages.len() != 4096 {
+    if pages.len() != PAGE_BUFFER_WORDS {
         return false;
     }
-    ranges.len() == 2048
+    ranges.len() == RANGE_BUFFER_WORDS
 }
 
 // Whether the tables keep every layout and rule. One pass over each buffer: where each mapped page's frame names the page, the held frames name
 // their pages too as soon as there are as many of the one as of the other.
 pub fn tables_sound(control: &[u32], frames: &[u32], pages: &[u32], ranges: &[u32]) -> bool
-    requires { ⌜ length (now control) ≡ 195 ⌝ }
-    requires { ⌜ length (now frames) ≡ 4096 ⌝ }
-    requires { ⌜ length (now pages) ≡ 4096 ⌝ }
-    requires { ⌜ length (now ranges) ≡ 2048 ⌝ }
+    requires { ⌜ length (now control) ≡ controlWords ⌝ }
+    requires { ⌜ length (now frames) ≡ frameBufferWords ⌝ }
+    requires { ⌜ length (now pages) ≡ pageBufferWords ⌝ }
+    requires { ⌜ length (now ranges) ≡ rangeBufferWords ⌝ }
     ensures { λ r. ⌜ r ≡ sound (tables (now (control .entry)) (now (frames .entry)) (now (pages .entry)) (now (ranges .entry))) ⌝ }
 {
     if !control::control_lawful(control) {

@@ -2,10 +2,12 @@
 ghost use mathlib.Core.Path.{_≡_};
 ghost use Prim.Native.Nat.{_+_, _≤_};
 ghost use lib.ListN.{length};
+ghost use Rattle.words.specs.Sizes.{pagesInSpace};
 ghost use Rattle.words.specs.Searches.{allFrom, anyFrom};
 ghost use Rattle.layout.specs.Calls.{isSpan};
 ghost use Rattle.tablecheck.specs.Judging.{pageMapped};
 use ranges::page_words::mapped;
+use words::PAGES;
 
 // Whether the span has a page and ends by page 1,023. The sum of first page and page count may not fit a word, so it is not made.
 pub fn is_span(first: u32, count: u32) -> bool
@@ -14,16 +16,16 @@ pub fn is_span(first: u32, count: u32) -> bool
     if count < 1 {
         return false;
     }
-    if 1024 < count {
+    if PAGES < count {
         return false;
     }
-    first <= 1024 - count
+    first <= PAGES - count
 }
 
 // Whether a page of the span is mapped.
 pub fn any_mapped(part: &[u32], first: u32, count: u32) -> bool
-    requires { ⌜ length (now part) ≡ 1024 ⌝ }
-    requires { ⌜ first + count ≤ 1024 ⌝ }
+    requires { ⌜ length (now part) ≡ pagesInSpace ⌝ }
+    requires { ⌜ first + count ≤ pagesInSpace ⌝ }
     ensures { λ r. ⌜ r ≡ anyFrom count first (pageMapped (now (part .entry))) ⌝ }
 {
     let end = first + count;
@@ -39,8 +41,8 @@ pub fn any_mapped(part: &[u32], first: u32, count: u32) -> bool
 
 // Whether every page of the span is mapped.
 pub fn all_mapped(part: &[u32], first: u32, count: u32) -> bool
-    requires { ⌜ length (now part) ≡ 1024 ⌝ }
-    requires { ⌜ first + count ≤ 1024 ⌝ }
+    requires { ⌜ length (now part) ≡ pagesInSpace ⌝ }
+    requires { ⌜ first + count ≤ pagesInSpace ⌝ }
     ensures { λ r. ⌜ r ≡ allFrom count first (pageMapped (now (part .entry))) ⌝ }
 {
     let end = first + count;

@@ -3,11 +3,15 @@ ghost use mathlib.Core.Path.{_≡_};
 ghost use mathlib.Core.Bool.{true, false};
 ghost use Prim.Native.Nat.{_+_, _≤_, _<_};
 ghost use lib.ListN.{length};
+ghost use Rattle.words.specs.Sizes.{pagesInSpace};
 ghost use Rattle.words.specs.Counts.{count, one-if};
 ghost use Rattle.words.specs.Searches.{allFrom};
+ghost use Rattle.blocks.specs.FrameWords.{frameBufferWords, largestPool};
 ghost use Rattle.runs.specs.PageWords.{mapped, frameIn};
 ghost use Rattle.runs.specs.Steps.{Onward, Along};
+ghost use Rattle.runs.specs.Runs.{rangeWordsInSpace};
 ghost use Rattle.layout.specs.Pointing.{pageOk};
+ghost use Rattle.layout.specs.Tables.{pageBufferWords, rangeBufferWords};
 ghost use Rattle.tablecheck.specs.Judging.{pageMapped, pageFits, partSound, spaceSound, Named};
 use ranges::lawful::next_place;
 use ranges::lawful::rest_fits;
@@ -20,7 +24,11 @@ use ranges::walk::goes_on;
 use ranges::walk::joined;
 use ranges::walk::least;
 use ranges::walk::over;
+use runs::PAGE_WORDS;
 use runs::Page;
+use runs::RANGE_WORDS;
+use words::PAGES;
+use words::SPACES;
 use words::scans::counts_beside;
 
 // What a walk finds: whether the words are sound, and where they are, how many pages are mapped.
@@ -41,8 +49,8 @@ fn unsound() -> Walked
 // Whether page word w at place i of the page buffer is unmapped, or the word of its frame names place i.
 // The way back, from held frames to their pages, has no test: it holds where as many pages are mapped as frames are held (law `by-count`).
 fn page_ok(frames: &[u32], pool: u32, i: u32, w: u32) -> bool
-    requires { ⌜ length (now frames) ≡ 4096 ⌝ }
-    requires { ⌜ i < 4096 ⌝ }
+    requires { ⌜ length (now frames) ≡ frameBufferWords ⌝ }
+    requires { ⌜ i < pageBufferWords ⌝ }
     ensures { λ r. ⌜ r ≡ pageOk (now (frames .entry)) pool i w ⌝ }
 {
     if !mapped(w) {
@@ -58,8 +66,8 @@ fn page_ok(frames: &[u32], pool: u32, i: u32, w: u32) -> bool
 
 // Whether page word w at place i of the page buffer is unmapped, or the space is open and the word of its frame names place i.
 fn page_fits(frames: &[u32], pool: u32, opened: bool, i: u32, w: u32) -> bool
-    requires { ⌜ length (now frames) ≡ 4096 ⌝ }
-    requires { ⌜ i < 4096 ⌝ }
+    requires { ⌜ length (now frames) ≡ frameBufferWords ⌝ }
+    requires { ⌜ i < pageBufferWords ⌝ }
     ensures { λ r. ⌜ r ≡ pageFits opened (now (frames .entry)) pool i w ⌝ }
 {
     if opened {
@@ -70,11 +78,11 @@ fn page_fits(frames: &[u32], pool: u32, opened: bool, i: u32, w: u32) -> bool
 
 // A number of pages from page b on that extend the run of the mapped word w, with frames that are in the pool and have words that name them. The promise leaves how many.
 fn onward_fitting(frames: &[u32], pool: u32, first: u32, part: &[u32], b: Page, w: u32) -> u32
-    requires { ⌜ length (now frames) ≡ 4096 ⌝ }
-    requires { ⌜ pool ≤ 4096 ⌝ }
-    requires { ⌜ first + 1024 ≤ 4096 ⌝ }
-    requires { ⌜ length (now part) ≡ 1024 ⌝ }
-    requires { ⌜ b .0 ≤ 1024 ⌝ }
+    requires { ⌜ length (now frames) ≡ frameBufferWords ⌝ }
+    requires { ⌜ pool ≤ largestPool ⌝ }
+    requires { ⌜ first + pagesInSpace ≤ pageBufferWords ⌝ }
+    requires { ⌜ length (now part) ≡ pagesInSpace ⌝ }
+    requires { ⌜ b .0 ≤ pagesInSpace ⌝ }
     requires { ⌜ mapped w ≡ true ⌝ }
     ensures { λ r. ⌜ Onward (now (part .entry)) (b .0) w r ⌝ }
     ensures { λ r. ⌜ Named (now (frames .entry)) pool (frameIn w) (first + b .0) r ⌝ }
@@ -83,7 +91,7 @@ fn onward_fitting(frames: &[u32], pool: u32, first: u32, part: &[u32], b: Page, 
     if pool <= f.0 {
         return 0;
     }
-    let most = least(1024 - b.0, pool - 1 - f.0);
+    let most = least(PAGES - b.0, pool - 1 - f.0);
     let from = b.0 as usize;
     let at = (f.0 + 1) as usize;
     let place = first + b.0;
@@ -92,11 +100,11 @@ fn onward_fitting(frames: &[u32], pool: u32, first: u32, part: &[u32], b: Page, 
 
 // The pages from page b on, after word w, that fit at once: unmapped ones, or those that extend the run of w and whose frames name them.
 fn over_fitting(frames: &[u32], pool: u32, first: u32, part: &[u32], b: Page, w: u32) -> Stretch
-    requires { ⌜ length (now frames) ≡ 4096 ⌝ }
-    requires { ⌜ pool ≤ 4096 ⌝ }
-    requires { ⌜ first + 1024 ≤ 4096 ⌝ }
-    requires { ⌜ length (now part) ≡ 1024 ⌝ }
-    requires { ⌜ b .0 ≤ 1024 ⌝ }
+    requires { ⌜ length (now frames) ≡ frameBufferWords ⌝ }
+    requires { ⌜ pool ≤ largestPool ⌝ }
+    requires { ⌜ first + pagesInSpace ≤ pageBufferWords ⌝ }
+    requires { ⌜ length (now part) ≡ pagesInSpace ⌝ }
+    requires { ⌜ b .0 ≤ pagesInSpace ⌝ }
     ensures { λ r. ⌜ Along (now (part .entry)) (b .0) w (r .pages) (r .mapped) ⌝ }
     ensures { λ r. ⌜ r .last ≡ w + r .mapped ⌝ }
     ensures { λ r. ⌜ Named (now (frames .entry)) pool (frameIn w) (first + b .0) (r .mapped) ⌝ }
@@ -121,20 +129,20 @@ fn walk_space(
     part: &[u32],
     ranges: &[u32],
 ) -> Walked
-    requires { ⌜ length (now frames) ≡ 4096 ⌝ }
-    requires { ⌜ pool ≤ 4096 ⌝ }
-    requires { ⌜ first + 1024 ≤ 4096 ⌝ }
-    requires { ⌜ length (now part) ≡ 1024 ⌝ }
-    requires { ⌜ length (now ranges) ≡ 512 ⌝ }
+    requires { ⌜ length (now frames) ≡ frameBufferWords ⌝ }
+    requires { ⌜ pool ≤ largestPool ⌝ }
+    requires { ⌜ first + pagesInSpace ≤ pageBufferWords ⌝ }
+    requires { ⌜ length (now part) ≡ pagesInSpace ⌝ }
+    requires { ⌜ length (now ranges) ≡ rangeWordsInSpace ⌝ }
     ensures { λ r. ⌜ r .sound ≡ partSound opened (now (frames .entry)) pool first (now (part .entry)) (now (ranges .entry)) ⌝ }
-    ensures { λ r. ⌜ (r .sound ≡ true → r .mapped ≡ count 1024 (pageMapped (now (part .entry)))) ⌝ }
+    ensures { λ r. ⌜ (r .sound ≡ true → r .mapped ≡ count pagesInSpace (pageMapped (now (part .entry)))) ⌝ }
 {
     let mut n: u32 = 0;
     let mut v: u32 = 0;
     let mut at: usize = 0;
     let mut m: u32 = 0;
     let mut i: u32 = 0;
-    while i < 1024 {
+    while i < PAGES {
         let w = part[i as usize];
         let on = joined(v, w);
         if !step_fits(ranges, on, at, Page(i), n, v, w) {
@@ -156,22 +164,22 @@ fn walk_space(
 
 // The walk over the four spaces.
 pub fn walk_spaces(mask: u32, frames: &[u32], pool: u32, pages: &[u32], ranges: &[u32]) -> Walked
-    requires { ⌜ length (now frames) ≡ 4096 ⌝ }
-    requires { ⌜ pool ≤ 4096 ⌝ }
-    requires { ⌜ length (now pages) ≡ 4096 ⌝ }
-    requires { ⌜ length (now ranges) ≡ 2048 ⌝ }
+    requires { ⌜ length (now frames) ≡ frameBufferWords ⌝ }
+    requires { ⌜ pool ≤ largestPool ⌝ }
+    requires { ⌜ length (now pages) ≡ pageBufferWords ⌝ }
+    requires { ⌜ length (now ranges) ≡ rangeBufferWords ⌝ }
     ensures { λ r. ⌜ r .sound ≡ allFrom 4 0 (spaceSound mask (now (frames .entry)) pool (now (pages .entry)) (now (ranges .entry))) ⌝ }
-    ensures { λ r. ⌜ (r .sound ≡ true → r .mapped ≡ count 4096 (pageMapped (now (pages .entry)))) ⌝ }
+    ensures { λ r. ⌜ (r .sound ≡ true → r .mapped ≡ count pageBufferWords (pageMapped (now (pages .entry)))) ⌝ }
 {
     let mut m: u32 = 0;
     let mut s: u32 = 0;
-    while s < 4 {
+    while s < SPACES {
         let opened = control::is_open(mask, s);
-        let a = 1024 * (s as usize);
-        let e = a + 1024;
-        let b = 512 * (s as usize);
-        let f = b + 512;
-        let here = walk_space(frames, pool, opened, 1024 * s, &pages[a..e], &ranges[b..f]);
+        let a = PAGE_WORDS * (s as usize);
+        let e = a + PAGE_WORDS;
+        let b = RANGE_WORDS * (s as usize);
+        let f = b + RANGE_WORDS;
+        let here = walk_space(frames, pool, opened, PAGES * s, &pages[a..e], &ranges[b..f]);
         if !here.sound {
             return unsound();
         }

@@ -3,16 +3,19 @@ ghost use mathlib.Core.Path.{_≡_};
 ghost use Prim.Native.Nat.{_<_};
 ghost use lib.ListN.{length};
 ghost use Rattle.words.specs.Tables.{tabulate};
+ghost use Rattle.history.specs.Units.{rangeEntries, pageEntries};
 ghost use Rattle.invalidation.specs.Entries.{withPages, withRanges};
-ghost use Rattle.unitwords.specs.UnitWords.{pageAt, rangeAt, unitOf, pageWords, rangeWords, lastWords, joined, wordsOf};
+ghost use Rattle.unitwords.specs.UnitWords.{unitWords, rangesFrom, pageAt, rangeAt, unitOf, pageWords, rangeWords, lastWords, joined, wordsOf};
 use history::PageEntry;
 use history::RangeEntry;
 use history::Unit;
 
+pub const UNIT_WORDS: usize = 515;
+
 // Page entry k.
 fn page_at(words: &[u32], k: usize) -> PageEntry
-    requires { ⌜ length (now words) ≡ 515 ⌝ }
-    requires { ⌜ k < 64 ⌝ }
+    requires { ⌜ length (now words) ≡ unitWords ⌝ }
+    requires { ⌜ k < pageEntries ⌝ }
     ensures { λ r. ⌜ r ≡ pageAt (now (words .entry)) k ⌝ }
 {
     let at = 5 * k;
@@ -27,8 +30,8 @@ fn page_at(words: &[u32], k: usize) -> PageEntry
 
 // Range entry k.
 fn range_at(words: &[u32], k: usize) -> RangeEntry
-    requires { ⌜ length (now words) ≡ 515 ⌝ }
-    requires { ⌜ k < 32 ⌝ }
+    requires { ⌜ length (now words) ≡ unitWords ⌝ }
+    requires { ⌜ k < rangeEntries ⌝ }
     ensures { λ r. ⌜ r ≡ rangeAt (now (words .entry)) k ⌝ }
 {
     let at = 320 + 6 * k;
@@ -44,8 +47,8 @@ fn range_at(words: &[u32], k: usize) -> RangeEntry
 
 // The unit with the page entries of the words.
 fn with_pages(u: Unit, words: &[u32]) -> Unit
-    requires { ⌜ length (now words) ≡ 515 ⌝ }
-    ensures { λ r. ⌜ r ≡ withPages u (tabulate 64 (pageAt (now (words .entry)))) ⌝ }
+    requires { ⌜ length (now words) ≡ unitWords ⌝ }
+    ensures { λ r. ⌜ r ≡ withPages u (tabulate pageEntries (pageAt (now (words .entry)))) ⌝ }
 {
     let mut v = u;
     for k in 0..64 {
@@ -57,8 +60,8 @@ fn with_pages(u: Unit, words: &[u32]) -> Unit
 
 // The unit with the range entries of the words.
 fn with_ranges(u: Unit, words: &[u32]) -> Unit
-    requires { ⌜ length (now words) ≡ 515 ⌝ }
-    ensures { λ r. ⌜ r ≡ withRanges u (tabulate 32 (rangeAt (now (words .entry)))) ⌝ }
+    requires { ⌜ length (now words) ≡ unitWords ⌝ }
+    ensures { λ r. ⌜ r ≡ withRanges u (tabulate rangeEntries (rangeAt (now (words .entry)))) ⌝ }
 {
     let mut v = u;
     for k in 0..32 {
@@ -70,7 +73,7 @@ fn with_ranges(u: Unit, words: &[u32]) -> Unit
 
 // The unit that the words are.
 pub fn read_unit(words: &[u32]) -> Unit
-    requires { ⌜ length (now words) ≡ 515 ⌝ }
+    requires { ⌜ length (now words) ≡ unitWords ⌝ }
     ensures { λ r. ⌜ r ≡ unitOf (now (words .entry)) ⌝ }
 {
     let empty = invalidation::emptied(0);
@@ -119,7 +122,7 @@ fn write_last(place: &mut [u32], u: Unit)
 
 // Writes the page entries over the words lent.
 fn write_pages(words: &mut [u32], u: Unit)
-    requires { ⌜ length (now words) ≡ 320 ⌝ }
+    requires { ⌜ length (now words) ≡ rangesFrom ⌝ }
     ensures { λ _. ⌜ now (words .exit) ≡ joined pageWords (u .pages) ⌝ }
 {
     for k in 0..64 {
@@ -145,7 +148,7 @@ fn write_ranges(words: &mut [u32], u: Unit)
 
 // Writes the unit over the words lent, which are that unit then.
 pub fn write_unit(words: &mut [u32], u: Unit)
-    requires { ⌜ length (now words) ≡ 515 ⌝ }
+    requires { ⌜ length (now words) ≡ unitWords ⌝ }
     ensures { λ _. ⌜ now (words .exit) ≡ wordsOf u ⌝ }
     ensures { λ _. ⌜ unitOf (now (words .exit)) ≡ u ⌝ }
 {

@@ -1,0 +1,56 @@
+use mathlib.Core.Path.{_≡_}
+use Prim.Native.Nat.{_≤_, _-_}
+use lib.ListN.{length}
+use borrow.Author.Needs.{needs}
+use Rattle.bench.proofs.table_check.hundred.Statement.{statement}
+use Rattle.bench.proofs.table_check.hundred.Tie as tie
+
+abbrev Inv-loop : tie.InvT-loop
+Inv-loop control₀ frames pages ranges start counter₀ control counter =
+    (length control ≡ length control₀) × (counter ≤ 100)
+
+abbrev μ-loop : tie.MeasureT-loop
+μ-loop control₀ frames pages ranges start counter₀ control counter = 100 - counter
+
+used-requires : tie.Need-used-requires Inv-loop μ-loop
+used-requires c κs = search needs
+
+loop-holds : tie.Need-loop-holds Inv-loop μ-loop
+loop-holds c = search needs
+
+open-requires : tie.Need-open-requires Inv-loop μ-loop
+open-requires c κs = search needs
+
+add-counter : tie.Need-add-counter Inv-loop μ-loop
+add-counter c = search needs
+
+loop-less : tie.Need-loop-less Inv-loop μ-loop
+loop-less c = search needs
+
+loop-again : tie.Need-loop-again Inv-loop μ-loop
+loop-again c = search needs
+
+since-requires : tie.Need-since-requires Inv-loop μ-loop
+since-requires c κs = search needs
+
+same-length : tie.Need-same-length Inv-loop μ-loop
+same-length c = search needs
+
+returns : tie.Need-returns Inv-loop μ-loop
+returns c = search needs
+
+pub hundred-spec : {M : Type 1} → statement M
+hundred-spec =
+    tie.close
+    (tie.spec
+    Inv-loop
+    μ-loop
+    used-requires
+    loop-holds
+    open-requires
+    add-counter
+    loop-less
+    loop-again
+    since-requires
+    same-length
+    returns)
