@@ -40,9 +40,9 @@ pub fn map_pages(
     ensures { λ _. ⌜ now (frames .exit) ≡ frameWords pool (give (ownersOf (now (frames .entry))) (ownerAt space (first .0)) (framesFor pool (freeIn (now (frames .entry))) n)) ⌝ }
     ensures { λ _. ⌜ Rewritten space (mapWords (spacePages (now (pages .entry)) space) (first .0) n rights (framesFor pool (freeIn (now (frames .entry))) n)) (now (pages .entry)) (now (ranges .entry)) (now (pages .exit)) (now (ranges .exit)) ⌝ }
 {
-    let a = 1024 * (space as usize);
+    let a = (1024 * space) as usize;
     let e = a + 1024;
-    let b = 512 * (space as usize);
+    let b = (512 * space) as usize;
     let f = b + 512;
     let owner = 1 + 1024 * space + first.0;
     map_space(

@@ -9,6 +9,10 @@ use Rattle.steps.proofs.map_pages.Tie as tie
 mul-a : tie.Need-mul-a
 mul-a c = search needs
 
+-- src/lib.rt:43:13
+cast-a : tie.Need-cast-a
+cast-a c = search needs
+
 -- src/lib.rt:44:13
 add-e : tie.Need-add-e
 add-e c = search needs
@@ -16,6 +20,10 @@ add-e c = search needs
 -- src/lib.rt:45:13
 mul-b : tie.Need-mul-b
 mul-b c = search needs
+
+-- src/lib.rt:45:13
+cast-b : tie.Need-cast-b
+cast-b c = search needs
 
 -- src/lib.rt:46:13
 add-f : tie.Need-add-f
@@ -90,8 +98,10 @@ map-pages-spec =
     tie.close
     (tie.spec
     mul-a
+    cast-a
     add-e
     mul-b
+    cast-b
     add-f
     mul-owner
     add-owner
