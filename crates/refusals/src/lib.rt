@@ -1,4 +1,6 @@
 // Whether a call is refused, and by what: the first refusal that applies, or Done with zeros. Nothing is written here.
+mod spans;
+
 ghost use mathlib.Core.Path.{_≡_};
 ghost use lib.Dec.{eqb};
 ghost use lib.ListN.{length};
@@ -10,14 +12,13 @@ ghost use Rattle.layout.specs.declared.TableCall.the-variants.{SetUpPool, Open,
 ghost use Rattle.layout.specs.Answers.{outcome};
 ghost use Rattle.layout.specs.Tables.{tables};
 ghost use Rattle.layout.specs.Calls.{row};
-ghost use Rattle.refusals.specs.Parts.{ofTables, ofSpan, shared};
+ghost use Rattle.refusals.specs.Parts.{ofTables, shared};
+use crate::spans::judge_span;
 use blocks::LARGEST_POOL;
 use layout::Answer;
-use runs::LARGEST_RIGHTS;
 use runs::PAGE_WORDS;
 use tablecheck::all_mapped;
 use tablecheck::any_mapped;
-use tablecheck::is_span;
 use tablecheck::right_lengths;
 use tablecheck::tables_sound;
 use words::LARGEST_WORD;
@@ -73,29 +74,6 @@ fn judge_tables(control: &[u32], frames: &[u32], pages: &[u32], ranges: &[u32]) 
     }
     if !tables_sound(control, frames, pages, ranges) {
         return Answer::Unsound;
-    }
-    Answer::Done {
-        first: 0,
-        second: 0,
-    }
-}
-
-// A span of an open space, with rights: 5, 6, 8, 10.
-fn judge_span(control: &[u32], space: u32, first: u32, count: u32, rights: u32) -> Answer
-    requires { ⌜ length (now control) ≡ controlWords ⌝ }
-    ensures { λ r. ⌜ outcome r ≡ refusal (decide (ofSpan (now (control .entry)) space first count rights) 0) ⌝ }
-{
-    if LAST_SPACE < space {
-        return Answer::NoSuchSpace;
-    }
-    if LARGEST_RIGHTS < rights {
-        return Answer::WrongRights;
-    }
-    if !is_span(first, count) {
-        return Answer::WrongSpan;
-    }
-    if !control::is_open(control::open_mask(control), space) {
-        return Answer::NotOpen;
     }
     Answer::Done {
         first: 0,

@@ -44,7 +44,7 @@ pub fn map_pages(
     ensures { λ _. ⌜ now (frames .exit) ≡ frameWords pool (give (ownersOf (now (frames .entry))) (ownerAt space (first .0)) (framesFor pool (freeIn (now (frames .entry))) n)) ⌝ }
     ensures { λ _. ⌜ Rewritten space (mapWords (spacePages (now (pages .entry)) space) (first .0) n rights (framesFor pool (freeIn (now (frames .entry))) n)) (now (pages .entry)) (now (ranges .entry)) (now (pages .exit)) (now (ranges .exit)) ⌝ }
 {
-    let a = PAGE_WORDS * (space as usize);
+    let a = (PAGES * space) as usize;
     let e = a + PAGE_WORDS;
     let b = RANGE_WORDS * (space as usize);
     let f = b + RANGE_WORDS;

@@ -9,6 +9,10 @@ use Rattle.steps.proofs.map_pages.Tie as tie
 mul-a : tie.Need-mul-a
 mul-a c = search needs
 
+-- src/lib.rt:43:13
+cast-a : tie.Need-cast-a
+cast-a c = search needs
+
 -- src/lib.rt:44:13
 add-e : tie.Need-add-e
 add-e c = search needs
@@ -90,6 +94,7 @@ map-pages-spec =
     tie.close
     (tie.spec
     mul-a
+    cast-a
     add-e
     mul-b
     add-f
