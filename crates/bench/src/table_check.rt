@@ -5,7 +5,7 @@ use layout::CONTROL_WORDS;
 use layout::FRAME_BUFFER_WORDS;
 use layout::PAGE_BUFFER_WORDS;
 use layout::RANGE_BUFFER_WORDS;
-use words::PAGES;
+use runs::PAGES;
 
 // Opens the spaces below `mapped` and maps every page of each.
 fn map_spaces(

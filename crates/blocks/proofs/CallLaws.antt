@@ -21,7 +21,8 @@ use Rattle.blocks.specs.declared.PoolCall.{PoolCall}
 use Rattle.blocks.specs.declared.PoolCall.the-variants.{SetUp, Check, Count, Allocate, Free}
 use Rattle.blocks.specs.FrameWords.{isPoolSize, ownersOf, freeIn, lawful, frameWords}
 use Rattle.blocks.specs.Owners.{freed, holds}
-use Rattle.blocks.specs.Calls.{outcome, PoolWords, lent, inOwners, judged, Taken, freedWords, row, Called}
+use Rattle.blocks.specs.Taking.{FramesTaken}
+use Rattle.blocks.specs.Calls.{outcome, PoolWords, lent, inOwners, judged, freedWords, row, Called}
 use Rattle.blocks.specs.Statements.{LowestFirst}
 use Rattle.blocks.proofs.WordLaws.{owners-small, free-zero, at-free, lawful-is, owners-high, owners-again, size-at, at-size}
 use Rattle.blocks.proofs.FreeLaws.{freed-small, freed-zero}
@@ -186,7 +187,7 @@ module _ (F : ℕ) (b : List ℕ) (o : ℕ) (out : List ℕ) (t : lawful F b ≡
       unfolding row
       allocate-few h = refuses (Allocate F o) (lent b out) (outcome TooFewFrames .number) (omega arith) (on F b t _ _ (later (ap not i) (later nobody (here (omega arith) (lt-ltb _ _ h)))))
 
-      pub allocate-done : (r : ℕ) (b′ out′ : List ℕ) → length out ≤ count F (freeIn b) → Taken F b o (length out) r b′ out′ → Called (Allocate F o) (lent b out) (outcome (Done r)) (lent b′ out′)
+      pub allocate-done : (r : ℕ) (b′ out′ : List ℕ) → length out ≤ count F (freeIn b) → FramesTaken F b o (length out) r b′ out′ → Called (Allocate F o) (lent b out) (outcome (Done r)) (lent b′ out′)
       unfolding row
       allocate-done r b′ out′ h w =
           accepts (Allocate F o) (lent b out) r (lent b′ out′) (none-on F b t _ (next (ap not i) (next nobody (next (le-ltb _ _ h) done)))) (w .blocks) refl (rw (w .words, w .frames))

@@ -1,4 +1,4 @@
--- Blocks of frames, the buddies of a buddy allocator. Document 01, Frames, first paragraph. `free` says of each frame number whether the frame is free.
+-- Blocks of frames, as a buddy allocator splits and merges them. Document 01, Frames, first paragraph. `free` says of each frame number whether the frame is free.
 use mathlib.Core.Bool.{Bool, _&&_, not}
 use Prim.Native.Nat.{ℕ, suc, _+_, _-_, _%_, _^_}
 use lib.Dec.{leb, ltb, eqb}
@@ -17,6 +17,7 @@ pastMultiple k s = s % 2 ^ k
 abbrev pub largestOrder : ℕ
 largestOrder = 10
 
+-- how many orders there are
 abbrev pub orders : ℕ
 orders = 11
 

@@ -78,7 +78,7 @@ tooFewFrames F b n = record { when = ltb (count F (freeIn b)) n; answer = 14 }
 abbrev pub judged : ℕ → List ℕ → List (Refusal ℕ) → List (Refusal ℕ)
 judged F b rs = wrongLength b ∷ unlawful F b ∷ wrongPoolSize F ∷ rs
 
--- every frame of the n owners from o on is free
+-- the frame words once every frame of the n owners from o on is free
 unfoldable pub freedWords : ℕ → List ℕ → ℕ → ℕ → List ℕ
 freedWords F b o n = frameWords F (freed (ownersOf b) o n)
 
@@ -112,9 +112,3 @@ row P (Free F o n) =
 -- what every public call on the pool promises: lent P, it has the outcome o and leaves P′
 abbrev pub Called : PoolCall → PoolWords → Outcome → PoolWords → Type 0
 Called c P = Promised (row P c) P
-
--- what `take_frames`, which allocate calls once it has judged the request, answers and leaves
-pub record Taken (F : ℕ) (b : List ℕ) (o n r : ℕ) (b′ out′ : List ℕ) : Type 0 where
-  pub blocks : r ≡ blockCount F (freeIn b) n
-  pub words : b′ ≡ frameWords F (give (ownersOf b) o (framesFor F (freeIn b) n))
-  pub frames : out′ ≡ framesFor F (freeIn b) n

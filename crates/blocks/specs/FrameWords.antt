@@ -72,7 +72,7 @@ unfoldable pub lawfulAt : ℕ → (ℕ → Bool) → ℕ → ℕ → Bool
 lawfulAt F free f w = elim (ltb f F) [ true ↦ isOwner w || eqb w (freeWord F free f) | false ↦ eqb w outside ]
 
 -- the frame buffer's part of what document 01 calls sound. An owner may stand at several frames here:
--- that it stands at one only follows from "frame and page words point at each other", which is for the tables above
+-- that it stands at one only follows from "frame and page words .. point at each other", which is for the tables above
 unfoldable pub lawful : ℕ → List ℕ → Bool
 lawful F b = eqb (length b) frameBufferWords && (isPoolSize F && every (lawfulAt F (freeIn b)) 0 b)
 

@@ -8,7 +8,7 @@ use Rattle.blocks.specs.declared.Bound.{Bound}
 use Rattle.blocks.specs.declared.Chosen.{Chosen}
 use Rattle.blocks.specs.Blocks.{largestOrder, freeBlock}
 use Rattle.blocks.specs.FrameWords.{ownersOf, freeIn, frameWords}
-use Rattle.blocks.specs.Choice.{lowest, takeBlock, framesOf}
+use Rattle.blocks.specs.Choice.{lowest, takeBlock, framesOf, framesFor, blockCount}
 use Rattle.blocks.specs.Owners.{give}
 
 -- no free block of order k starts below f
@@ -30,3 +30,9 @@ pub record BlockTaken (F : ℕ) (b : List ℕ) (o left : ℕ) (r : Chosen) (b′
   pub chosen : takeBlock F (freeIn b) left ≡ some (r .block)
   pub words : b′ ≡ frameWords F (give (ownersOf b) o (framesOf (r .block ∷ [])))
   pub searched : Searched F (freeIn b′) (r .known)
+
+-- what `take_frames`, which allocate calls once it has judged the request, answers and leaves
+pub record FramesTaken (F : ℕ) (b : List ℕ) (o n r : ℕ) (b′ out′ : List ℕ) : Type 0 where
+  pub blocks : r ≡ blockCount F (freeIn b) n
+  pub words : b′ ≡ frameWords F (give (ownersOf b) o (framesFor F (freeIn b) n))
+  pub frames : out′ ≡ framesFor F (freeIn b) n

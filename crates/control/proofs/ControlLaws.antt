@@ -14,17 +14,17 @@ use Rattle.words.specs.Searches.{allFrom}
 use Rattle.words.proofs.Cases.{by-test, by-dec, true-false, and-true, true-and}
 use Rattle.words.proofs.SearchLaws.{allFrom-at, at-allFrom}
 use Rattle.blocks.specs.FrameWords.{isPoolSize}
-use Rattle.control.specs.Control.{controlWords, poolSize, removals, openMask, placeOf, recordSpace, recordFirst, recordCount, withRemovals, withMask, withRecord, used, recordOk, recordFits, lawfulControl, isOpen, openedMask, closedMask, appended, freshControl}
+use Rattle.control.specs.Control.{controlBufferWords, poolSize, removals, openMask, wordOfPlace, recordSpace, recordFirst, recordCount, withRemovals, withMask, withRecord, used, recordOk, recordFits, lawfulControl, isOpen, withOpened, withClosed, appended, freshControl}
 use Rattle.control.proofs.MaskLaws.{set-here, set-other, set-fits, cleared-other}
 
 -- the places lie inside the buffer, behind the fields before them, and apart from each other
 
-pub place-inside : (j : ℕ) → j < 64 → placeOf j + 2 < controlWords
-unfolding placeOf
+pub place-inside : (j : ℕ) → j < 64 → wordOfPlace j + 2 < controlBufferWords
+unfolding wordOfPlace
 place-inside j h = omega arith
 
-place-behind : (j : ℕ) → 2 < placeOf j
-unfolding placeOf
+place-behind : (j : ℕ) → 2 < wordOfPlace j
+unfolding wordOfPlace
 place-behind j = omega arith
 
 -- the same record stands in place j
@@ -46,7 +46,7 @@ module _ (c : List ℕ) (n : ℕ) where
   unfolding withRemovals poolSize
   removals-pool = getD-set-other c 1 0 n 0 (λ e. omega arith)
 
-  pub removals-written : length c ≡ controlWords → removals (withRemovals c n) ≡ n
+  pub removals-written : length c ≡ controlBufferWords → removals (withRemovals c n) ≡ n
   unfolding withRemovals removals
   removals-written len = getD-set-same c 1 n 0 (omega arith)
 
@@ -59,9 +59,9 @@ module _ (c : List ℕ) (n : ℕ) where
   removals-places j =
       let h = place-behind j in
       record {
-        space = getD-set-other c 1 (placeOf j) n 0 (λ e. omega arith);
-        first = getD-set-other c 1 (placeOf j + 1) n 0 (λ e. omega arith);
-        count = getD-set-other c 1 (placeOf j + 2) n 0 (λ e. omega arith);
+        space = getD-set-other c 1 (wordOfPlace j) n 0 (λ e. omega arith);
+        first = getD-set-other c 1 (wordOfPlace j + 1) n 0 (λ e. omega arith);
+        count = getD-set-other c 1 (wordOfPlace j + 2) n 0 (λ e. omega arith);
       }
 
 -- the fields after the open mask is written
@@ -78,7 +78,7 @@ module _ (c : List ℕ) (m : ℕ) where
   unfolding withMask removals
   mask-removals = getD-set-other c 2 1 m 0 (λ e. omega arith)
 
-  pub mask-written : length c ≡ controlWords → openMask (withMask c m) ≡ m
+  pub mask-written : length c ≡ controlBufferWords → openMask (withMask c m) ≡ m
   unfolding withMask openMask
   mask-written len = getD-set-same c 2 m 0 (omega arith)
 
@@ -87,23 +87,23 @@ module _ (c : List ℕ) (m : ℕ) where
   mask-places j =
       let h = place-behind j in
       record {
-        space = getD-set-other c 2 (placeOf j) m 0 (λ e. omega arith);
-        first = getD-set-other c 2 (placeOf j + 1) m 0 (λ e. omega arith);
-        count = getD-set-other c 2 (placeOf j + 2) m 0 (λ e. omega arith);
+        space = getD-set-other c 2 (wordOfPlace j) m 0 (λ e. omega arith);
+        first = getD-set-other c 2 (wordOfPlace j + 1) m 0 (λ e. omega arith);
+        count = getD-set-other c 2 (wordOfPlace j + 2) m 0 (λ e. omega arith);
       }
 
 -- the fields after a record is written
 module _ (c : List ℕ) (j s f n : ℕ) where
   pub record-length : length (withRecord c j s f n) ≡ length c
   unfolding withRecord
-  record-length = length-set (set (set c (placeOf j) s) (placeOf j + 1) f) (placeOf j + 2) n ∙ length-set (set c (placeOf j) s) (placeOf j + 1) f ∙ length-set c (placeOf j) s
+  record-length = length-set (set (set c (wordOfPlace j) s) (wordOfPlace j + 1) f) (wordOfPlace j + 2) n ∙ length-set (set c (wordOfPlace j) s) (wordOfPlace j + 1) f ∙ length-set c (wordOfPlace j) s
 
   -- a word outside the three
-  other-word : (i : ℕ) → (i ≡ placeOf j → ⊥) → (i ≡ placeOf j + 1 → ⊥) → (i ≡ placeOf j + 2 → ⊥) → getD (withRecord c j s f n) i 0 ≡ getD c i 0
+  other-word : (i : ℕ) → (i ≡ wordOfPlace j → ⊥) → (i ≡ wordOfPlace j + 1 → ⊥) → (i ≡ wordOfPlace j + 2 → ⊥) → getD (withRecord c j s f n) i 0 ≡ getD c i 0
   unfolding withRecord
   other-word i x y z =
-      getD-set-other (set (set c (placeOf j) s) (placeOf j + 1) f) (placeOf j + 2) i n 0 z
-      ∙ getD-set-other (set c (placeOf j) s) (placeOf j + 1) i f 0 y ∙ getD-set-other c (placeOf j) i s 0 x
+      getD-set-other (set (set c (wordOfPlace j) s) (wordOfPlace j + 1) f) (wordOfPlace j + 2) i n 0 z
+      ∙ getD-set-other (set c (wordOfPlace j) s) (wordOfPlace j + 1) i f 0 y ∙ getD-set-other c (wordOfPlace j) i s 0 x
 
   field-before : (i : ℕ) → i ≤ 2 → getD (withRecord c j s f n) i 0 ≡ getD c i 0
   field-before i h = let b = place-behind j in other-word i (λ e. omega arith) (λ e. omega arith) (λ e. omega arith)
@@ -120,30 +120,30 @@ module _ (c : List ℕ) (j s f n : ℕ) where
   unfolding openMask
   record-mask = field-before 2 (omega arith)
 
-  module _ (len : length c ≡ controlWords) (h : j < 64) where
+  module _ (len : length c ≡ controlBufferWords) (h : j < 64) where
     pub record-space : recordSpace (withRecord c j s f n) j ≡ s
     unfolding withRecord recordSpace
     record-space =
-        getD-set-other (set (set c (placeOf j) s) (placeOf j + 1) f) (placeOf j + 2) (placeOf j) n 0 (λ e. omega arith)
-        ∙ getD-set-other (set c (placeOf j) s) (placeOf j + 1) (placeOf j) f 0 (λ e. omega arith)
-        ∙ getD-set-same c (placeOf j) s 0 (omega (arith, place-inside j h))
+        getD-set-other (set (set c (wordOfPlace j) s) (wordOfPlace j + 1) f) (wordOfPlace j + 2) (wordOfPlace j) n 0 (λ e. omega arith)
+        ∙ getD-set-other (set c (wordOfPlace j) s) (wordOfPlace j + 1) (wordOfPlace j) f 0 (λ e. omega arith)
+        ∙ getD-set-same c (wordOfPlace j) s 0 (omega (arith, place-inside j h))
 
     pub record-first : recordFirst (withRecord c j s f n) j ≡ f
     unfolding withRecord recordFirst
     record-first =
-        getD-set-other (set (set c (placeOf j) s) (placeOf j + 1) f) (placeOf j + 2) (placeOf j + 1) n 0 (λ e. omega arith)
-        ∙ getD-set-same (set c (placeOf j) s) (placeOf j + 1) f 0 (omega (arith, place-inside j h, length-set c (placeOf j) s))
+        getD-set-other (set (set c (wordOfPlace j) s) (wordOfPlace j + 1) f) (wordOfPlace j + 2) (wordOfPlace j + 1) n 0 (λ e. omega arith)
+        ∙ getD-set-same (set c (wordOfPlace j) s) (wordOfPlace j + 1) f 0 (omega (arith, place-inside j h, length-set c (wordOfPlace j) s))
 
     pub record-count : recordCount (withRecord c j s f n) j ≡ n
     unfolding withRecord recordCount
     record-count =
-        getD-set-same (set (set c (placeOf j) s) (placeOf j + 1) f) (placeOf j + 2) n 0
-        (omega (arith, place-inside j h, length-set (set c (placeOf j) s) (placeOf j + 1) f, length-set c (placeOf j) s))
+        getD-set-same (set (set c (wordOfPlace j) s) (wordOfPlace j + 1) f) (wordOfPlace j + 2) n 0
+        (omega (arith, place-inside j h, length-set (set c (wordOfPlace j) s) (wordOfPlace j + 1) f, length-set c (wordOfPlace j) s))
 
   -- word a of another place
-  other-place : (k a : ℕ) → (k ≡ j → ⊥) → a ≤ 2 → getD (withRecord c j s f n) (placeOf k + a) 0 ≡ getD c (placeOf k + a) 0
-  unfolding placeOf
-  other-place k a ne h = other-word (placeOf k + a) (λ e. omega arith) (λ e. omega arith) (λ e. omega arith)
+  other-place : (k a : ℕ) → (k ≡ j → ⊥) → a ≤ 2 → getD (withRecord c j s f n) (wordOfPlace k + a) 0 ≡ getD c (wordOfPlace k + a) 0
+  unfolding wordOfPlace
+  other-place k a ne h = other-word (wordOfPlace k + a) (λ e. omega arith) (λ e. omega arith) (λ e. omega arith)
 
   pub record-places : (k : ℕ) → (k ≡ j → ⊥) → SamePlace c (withRecord c j s f n) k
   unfolding recordSpace recordFirst recordCount
@@ -174,7 +174,7 @@ module _ (c : List ℕ) (s f n : ℕ) where
       same-trans _ _ _ j (removals-places c _ j)
       (record-places _ _ s f n j ne)
 
-  module _ (len : length c ≡ controlWords) where
+  module _ (len : length c ≡ controlBufferWords) where
     pub appended-removals : removals (appended c s f n) ≡ removals c + 1
     unfolding appended
     appended-removals = record-removals _ _ s f n ∙ removals-written c _ len
@@ -193,19 +193,19 @@ module _ (c : List ℕ) (s f n : ℕ) where
 
 -- the fields of a pool just set up
 module _ (F : ℕ) where
-  pub fresh-length : length (freshControl F) ≡ controlWords
+  pub fresh-length : length (freshControl F) ≡ controlBufferWords
   unfolding freshControl
-  fresh-length = ap suc (length-replicate {A = ℕ} (controlWords - 1) 0)
+  fresh-length = ap suc (length-replicate {A = ℕ} (controlBufferWords - 1) 0)
 
   pub fresh-pool : poolSize (freshControl F) ≡ F
   unfolding freshControl poolSize
   fresh-pool = refl
 
   -- every word behind the pool size
-  fresh-word : (i : ℕ) → 1 ≤ i → i < controlWords → getD (freshControl F) i 0 ≡ 0
+  fresh-word : (i : ℕ) → 1 ≤ i → i < controlBufferWords → getD (freshControl F) i 0 ≡ 0
   unfolding freshControl
   fresh-word zero lo hi = absurd (omega arith)
-  fresh-word (suc i) lo hi = getD-replicate (controlWords - 1) i 0 0 (omega arith)
+  fresh-word (suc i) lo hi = getD-replicate (controlBufferWords - 1) i 0 0 (omega arith)
 
   pub fresh-removals : removals (freshControl F) ≡ 0
   unfolding removals
@@ -220,14 +220,14 @@ module _ (F : ℕ) where
   fresh-places j h =
       let a = place-behind j in
       let b = place-inside j h in
-      (fresh-word (placeOf j) (omega arith) (omega arith), fresh-word (placeOf j + 1) (omega arith) (omega arith), fresh-word (placeOf j + 2) (omega arith) (omega arith))
+      (fresh-word (wordOfPlace j) (omega arith) (omega arith), fresh-word (wordOfPlace j + 1) (omega arith) (omega arith), fresh-word (wordOfPlace j + 2) (omega arith) (omega arith))
 
   -- a buffer of zeros in which the pool size is written
-  pub fresh-is : (c : List ℕ) → length c ≡ controlWords → ((i : ℕ) → i < controlWords → getD c i 0 ≡ 0) → set c 0 F ≡ freshControl F
+  pub fresh-is : (c : List ℕ) → length c ≡ controlBufferWords → ((i : ℕ) → i < controlBufferWords → getD c i 0 ≡ 0) → set c 0 F ≡ freshControl F
   unfolding freshControl
   fresh-is c len zeros =
       ext-getD 0 (set c 0 F) (freshControl F) (length-set c 0 F ∙ len ∙ sym fresh-length) (λ i hi.
-      let lt : i < controlWords = omega (arith, length-set c 0 F) in
+      let lt : i < controlBufferWords = omega (arith, length-set c 0 F) in
       by-dec (ℕ-discrete i 0)
       (λ z. rw z (getD-set-same c 0 F 0 (omega arith)))
       (λ nz. getD-set-other c 0 i F 0 nz ∙ zeros i lt ∙ sym (fresh-word i (omega arith) lt)))
@@ -378,13 +378,13 @@ fresh-lawful F t =
       fits = λ j h. let z = fresh-places F j h in sym (unused-yes _ _ _ _ (rw (fresh-removals F) (used-none j h)) (z .0) (z .1) (z .2));
     })
 
-new-fits : (c : List ℕ) (s f n : ℕ) → length c ≡ controlWords → s ≤ 3 → 1 ≤ n → f + n ≤ 1024 → recordFits (appended c s f n) ((removals c + 1) % 64) ≡ true
+new-fits : (c : List ℕ) (s f n : ℕ) → length c ≡ controlBufferWords → s ≤ 3 → 1 ≤ n → f + n ≤ 1024 → recordFits (appended c s f n) ((removals c + 1) % 64) ≡ true
 unfolding recordFits
 new-fits c s f n len hs hn hf =
     rw (appended-removals c s f n len, appended-space c s f n len, appended-first c s f n len, appended-count c s f n len)
     (sym (used-yes _ _ _ _ (used-new (removals c)) hs hn hf))
 
-pub appended-lawful : (c : List ℕ) (s f n : ℕ) → length c ≡ controlWords → lawfulControl c ≡ true → s ≤ 3 → 1 ≤ n → f + n ≤ 1024 → lawfulControl (appended c s f n) ≡ true
+pub appended-lawful : (c : List ℕ) (s f n : ℕ) → length c ≡ controlBufferWords → lawfulControl c ≡ true → s ≤ 3 → 1 ≤ n → f + n ≤ 1024 → lawfulControl (appended c s f n) ≡ true
 appended-lawful c s f n len t hs hn hf =
     let x = lawful-says c t in
     let m = x .mask in
@@ -397,7 +397,7 @@ appended-lawful c s f n len t hs hn hf =
     })
 
 -- another mask of at most 15
-pub mask-lawful : (c : List ℕ) (m : ℕ) → length c ≡ controlWords → lawfulControl c ≡ true → m ≤ 15 → lawfulControl (withMask c m) ≡ true
+pub mask-lawful : (c : List ℕ) (m : ℕ) → length c ≡ controlBufferWords → lawfulControl c ≡ true → m ≤ 15 → lawfulControl (withMask c m) ≡ true
 mask-lawful c m len t h =
     let x = lawful-says c t in
     says-lawful (withMask c m) (record {
@@ -406,37 +406,37 @@ mask-lawful c m len t h =
       fits = λ j hj. fits-same c (withMask c m) j (rw (mask-removals c m) refl) (mask-places c m j) ∙ x .fits j hj;
     })
 
-module _ (c : List ℕ) (s : ℕ) (len : length c ≡ controlWords) (shut : isOpen (openMask c) s ≡ false) where
-  pub opened-mask : openMask (openedMask c s) ≡ openMask c + 2 ^ s
-  unfolding openedMask
+module _ (c : List ℕ) (s : ℕ) (len : length c ≡ controlBufferWords) (shut : isOpen (openMask c) s ≡ false) where
+  pub opened-mask : openMask (withOpened c s) ≡ openMask c + 2 ^ s
+  unfolding withOpened
   opened-mask = mask-written c (openMask c + 2 ^ s) len
 
-  pub opened-lawful : lawfulControl c ≡ true → s ≤ 3 → lawfulControl (openedMask c s) ≡ true
-  unfolding openedMask
+  pub opened-lawful : lawfulControl c ≡ true → s ≤ 3 → lawfulControl (withOpened c s) ≡ true
+  unfolding withOpened
   opened-lawful t h =
       let m = lawful-says c t .mask in
       mask-lawful c (openMask c + 2 ^ s) len t (omega (arith, set-fits (openMask c) s shut 4 (omega arith) (omega arith)))
 
-  pub opened-here : isOpen (openMask (openedMask c s)) s ≡ true
+  pub opened-here : isOpen (openMask (withOpened c s)) s ≡ true
   opened-here = rw opened-mask (set-here (openMask c) s shut)
 
-  pub opened-other : (t : ℕ) → (t ≡ s → ⊥) → isOpen (openMask (openedMask c s)) t ≡ isOpen (openMask c) t
+  pub opened-other : (t : ℕ) → (t ≡ s → ⊥) → isOpen (openMask (withOpened c s)) t ≡ isOpen (openMask c) t
   opened-other t ne = rw opened-mask (set-other (openMask c) s shut t ne)
 
-module _ (c : List ℕ) (s : ℕ) (len : length c ≡ controlWords) (is-open : isOpen (openMask c) s ≡ true) where
-  pub closed-mask : openMask (closedMask c s) ≡ openMask c - 2 ^ s
-  unfolding closedMask
+module _ (c : List ℕ) (s : ℕ) (len : length c ≡ controlBufferWords) (is-open : isOpen (openMask c) s ≡ true) where
+  pub closed-mask : openMask (withClosed c s) ≡ openMask c - 2 ^ s
+  unfolding withClosed
   closed-mask = mask-written c (openMask c - 2 ^ s) len
 
-  pub closed-lawful : lawfulControl c ≡ true → lawfulControl (closedMask c s) ≡ true
-  unfolding closedMask
+  pub closed-lawful : lawfulControl c ≡ true → lawfulControl (withClosed c s) ≡ true
+  unfolding withClosed
   closed-lawful t = let m = lawful-says c t .mask in mask-lawful c (openMask c - 2 ^ s) len t (omega arith)
 
-  pub closed-other : (t : ℕ) → (t ≡ s → ⊥) → isOpen (openMask (closedMask c s)) t ≡ isOpen (openMask c) t
+  pub closed-other : (t : ℕ) → (t ≡ s → ⊥) → isOpen (openMask (withClosed c s)) t ≡ isOpen (openMask c) t
   closed-other t ne = rw closed-mask (cleared-other (openMask c) s is-open t ne)
 
 -- the stores of the code
 
-pub append-is : (c : List ℕ) (s f n m at : ℕ) → m ≡ removals c + 1 → at ≡ placeOf (m % 64) → set (set (set (set c 1 m) at s) (at + 1) f) (at + 2) n ≡ appended c s f n
+pub append-is : (c : List ℕ) (s f n m at : ℕ) → m ≡ removals c + 1 → at ≡ wordOfPlace (m % 64) → set (set (set (set c 1 m) at s) (at + 1) f) (at + 2) n ≡ appended c s f n
 unfolding appended withRecord withRemovals
 append-is c s f n m at e a = rw (a, e) refl

@@ -3,12 +3,13 @@ ghost use mathlib.Core.Path.{_≡_};
 ghost use mathlib.Core.Bool.{true, false};
 ghost use Prim.Native.Nat.{_+_, _^_, _≤_, _<_};
 ghost use lib.ListN.{length};
-ghost use Rattle.words.specs.Sizes.{lastSpace, largestWord};
-ghost use Rattle.control.specs.Control.{controlWords, logPlaces, allOpen, poolSize, removals, openMask, placeOf, recordSpace, recordFirst, recordCount, used, recordOk, recordFits, lawfulControl, isOpen, openedMask, closedMask, appended, freshControl};
+ghost use Rattle.words.specs.Wrapping.{largestWord};
+ghost use Rattle.runs.specs.PageWords.{lastSpace};
+ghost use Rattle.control.specs.Control.{controlBufferWords, logPlaces, allOpen, poolSize, removals, openMask, wordOfPlace, recordSpace, recordFirst, recordCount, used, recordOk, recordFits, lawfulControl, isOpen, withOpened, withClosed, appended, freshControl};
 use blocks::LARGEST_POOL;
 use runs::Page;
-use words::LAST_SPACE;
-use words::PAGES;
+use runs::LAST_SPACE;
+use runs::PAGES;
 
 const POOL: usize = 0;
 
@@ -28,62 +29,62 @@ pub const WORDS: usize = 195;
 const ALL_OPEN: u32 = 15;
 
 pub fn pool_size(control: &[u32]) -> u32
-    requires { ⌜ length (now control) ≡ controlWords ⌝ }
+    requires { ⌜ length (now control) ≡ controlBufferWords ⌝ }
     ensures { λ r. ⌜ r ≡ poolSize (now (control .entry)) ⌝ }
 {
     control[POOL]
 }
 
 pub fn removal_count(control: &[u32]) -> u32
-    requires { ⌜ length (now control) ≡ controlWords ⌝ }
+    requires { ⌜ length (now control) ≡ controlBufferWords ⌝ }
     ensures { λ r. ⌜ r ≡ removals (now (control .entry)) ⌝ }
 {
     control[REMOVALS]
 }
 
 pub fn open_mask(control: &[u32]) -> u32
-    requires { ⌜ length (now control) ≡ controlWords ⌝ }
+    requires { ⌜ length (now control) ≡ controlBufferWords ⌝ }
     ensures { λ r. ⌜ r ≡ openMask (now (control .entry)) ⌝ }
 {
     control[MASK]
 }
 
 // The first word of place j.
-fn place_of(j: u32) -> usize
+fn word_of_place(j: u32) -> usize
     requires { ⌜ j < logPlaces ⌝ }
-    ensures { λ r. ⌜ r ≡ placeOf j ⌝ }
-    ensures { λ r. ⌜ r + 2 < controlWords ⌝ }
+    ensures { λ r. ⌜ r ≡ wordOfPlace j ⌝ }
+    ensures { λ r. ⌜ r + 2 < controlBufferWords ⌝ }
 {
     (RECORDS + RECORD_WORDS * j) as usize
 }
 
 // The space of the record in place j.
 pub fn record_space(control: &[u32], j: u32) -> u32
-    requires { ⌜ length (now control) ≡ controlWords ⌝ }
+    requires { ⌜ length (now control) ≡ controlBufferWords ⌝ }
     requires { ⌜ j < logPlaces ⌝ }
     ensures { λ r. ⌜ r ≡ recordSpace (now (control .entry)) j ⌝ }
 {
-    let at = place_of(j);
+    let at = word_of_place(j);
     control[at]
 }
 
 // Its first page.
 pub fn record_first(control: &[u32], j: u32) -> Page
-    requires { ⌜ length (now control) ≡ controlWords ⌝ }
+    requires { ⌜ length (now control) ≡ controlBufferWords ⌝ }
     requires { ⌜ j < logPlaces ⌝ }
     ensures { λ r. ⌜ r .0 ≡ recordFirst (now (control .entry)) j ⌝ }
 {
-    let at = place_of(j);
+    let at = word_of_place(j);
     Page(control[at + 1])
 }
 
 // Its page count.
 pub fn record_count(control: &[u32], j: u32) -> u32
-    requires { ⌜ length (now control) ≡ controlWords ⌝ }
+    requires { ⌜ length (now control) ≡ controlBufferWords ⌝ }
     requires { ⌜ j < logPlaces ⌝ }
     ensures { λ r. ⌜ r ≡ recordCount (now (control .entry)) j ⌝ }
 {
-    let at = place_of(j);
+    let at = word_of_place(j);
     control[at + 2]
 }
 
@@ -145,7 +146,7 @@ fn record_ok(used: bool, space: u32, first: u32, count: u32) -> bool
 }
 
 fn record_fits(control: &[u32], j: u32) -> bool
-    requires { ⌜ length (now control) ≡ controlWords ⌝ }
+    requires { ⌜ length (now control) ≡ controlBufferWords ⌝ }
     requires { ⌜ j < logPlaces ⌝ }
     ensures { λ r. ⌜ r ≡ recordFits (now (control .entry)) j ⌝ }
 {
@@ -157,7 +158,7 @@ fn record_fits(control: &[u32], j: u32) -> bool
 
 // Whether the control buffer keeps its layout.
 pub fn control_lawful(control: &[u32]) -> bool
-    requires { ⌜ length (now control) ≡ controlWords ⌝ }
+    requires { ⌜ length (now control) ≡ controlBufferWords ⌝ }
     ensures { λ r. ⌜ r ≡ lawfulControl (now (control .entry)) ⌝ }
 {
     let pool = pool_size(control);
@@ -190,12 +191,12 @@ fn next_number(m: u32) -> u32
 
 // Appends a removal record.
 pub fn append(control: &mut [u32], space: u32, first: Page, count: u32)
-    requires { ⌜ length (now control) ≡ controlWords ⌝ }
+    requires { ⌜ length (now control) ≡ controlBufferWords ⌝ }
     requires { ⌜ (removals (now control) ≡ largestWord → ⊥) ⌝ }
     ensures { λ _. ⌜ now (control .exit) ≡ appended (now (control .entry)) space (first .0) count ⌝ }
 {
     let m = next_number(removal_count(control));
-    let at = place_of(m % PLACES);
+    let at = word_of_place(m % PLACES);
     control[REMOVALS] = m;
     control[at] = space;
     control[at + 1] = first.0;
@@ -204,11 +205,11 @@ pub fn append(control: &mut [u32], space: u32, first: Page, count: u32)
 
 // Opens space s in the mask.
 pub fn open_space(control: &mut [u32], s: u32)
-    requires { ⌜ length (now control) ≡ controlWords ⌝ }
+    requires { ⌜ length (now control) ≡ controlBufferWords ⌝ }
     requires { ⌜ s ≤ lastSpace ⌝ }
     requires { ⌜ openMask (now control) ≤ allOpen ⌝ }
     requires { ⌜ isOpen (openMask (now control)) s ≡ false ⌝ }
-    ensures { λ _. ⌜ now (control .exit) ≡ openedMask (now (control .entry)) s ⌝ }
+    ensures { λ _. ⌜ now (control .exit) ≡ withOpened (now (control .entry)) s ⌝ }
 {
     let mask = open_mask(control);
     control[MASK] = mask + bit_of(s);
@@ -216,11 +217,11 @@ pub fn open_space(control: &mut [u32], s: u32)
 
 // Closes space s in the mask.
 pub fn close_space(control: &mut [u32], s: u32)
-    requires { ⌜ length (now control) ≡ controlWords ⌝ }
+    requires { ⌜ length (now control) ≡ controlBufferWords ⌝ }
     requires { ⌜ s ≤ lastSpace ⌝ }
     requires { ⌜ openMask (now control) ≤ allOpen ⌝ }
     requires { ⌜ isOpen (openMask (now control)) s ≡ true ⌝ }
-    ensures { λ _. ⌜ now (control .exit) ≡ closedMask (now (control .entry)) s ⌝ }
+    ensures { λ _. ⌜ now (control .exit) ≡ withClosed (now (control .entry)) s ⌝ }
 {
     let mask = open_mask(control);
     control[MASK] = mask - bit_of(s);
@@ -228,7 +229,7 @@ pub fn close_space(control: &mut [u32], s: u32)
 
 // The control buffer of a pool just set up.
 pub fn fresh_control(control: &mut [u32], pool: u32)
-    requires { ⌜ length (now control) ≡ controlWords ⌝ }
+    requires { ⌜ length (now control) ≡ controlBufferWords ⌝ }
     ensures { λ _. ⌜ now (control .exit) ≡ freshControl pool ⌝ }
 {
     let mut i = 0;

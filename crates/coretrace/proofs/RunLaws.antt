@@ -8,16 +8,16 @@ use lib.Dec.{ltb, leb}
 use lib.ListN.{length, take, drop, length-append}
 use lib.Seq.{length-take-le, take-at}
 use borrow.Author.Tests.{leb-true}
-use Rattle.layout.specs.Tables.{Tables}
+use Rattle.layout.specs.Tables.{Tables, zeroed}
 use Rattle.trace.specs.declared.State.{State}
 use Rattle.recordcalls.specs.declared.TwoUnits.{TwoUnits}
 use Rattle.records.specs.Input.{waiting, standing, nextOf}
-use Rattle.records.specs.Lines.{written, header}
+use Rattle.records.specs.Lines.{written, longestLine, header}
 use Rattle.recordcalls.specs.Steps.{freshUnits}
-use Rattle.trace.specs.Listing.{Came, last, Listed, full, stops, zeroed}
-use Rattle.trace.specs.Turns.{Stepped, Lies, Ready}
+use Rattle.trace.specs.Listing.{Came, last, Listed, full, stops}
+use Rattle.trace.specs.Turns.{Turned, Lies, Ready}
 use Rattle.trace.proofs.ListingLaws.{record-listed}
-use Rattle.coretrace.specs.Runs.{keeps, Ran, Answered}
+use Rattle.coretrace.specs.Runs.{keeps, Ran, RanWhole}
 
 -- the bytes taken so far, and their lines, with those of the bytes that follow behind them
 pub record SoFar (T₀ T : Tables) (p : TwoUnits) (number : ℕ) (lines : List ℕ) (held : ℕ) : Type 0 where
@@ -60,7 +60,7 @@ module _ (T₀ T : Tables) (p : TwoUnits) (number : ℕ) (lines : List ℕ) (hel
       }
 
 -- a turn
-module _ (T₀ T T′ : Tables) (p p′ : TwoUnits) (s s′ : State) (buffer lines lines′ : List ℕ) (so-far : SoFar T₀ T p (s .number) lines (s .held)) (turn : Stepped T p s buffer lines T′ p′ s′ lines′) (below : s .number < last) (fits : s .held ≤ length lines) where
+module _ (T₀ T T′ : Tables) (p p′ : TwoUnits) (s s′ : State) (buffer lines lines′ : List ℕ) (so-far : SoFar T₀ T p (s .number) lines (s .held)) (turn : Turned T p s buffer lines T′ p′ s′ lines′) (below : s .number < last) (fits : s .held ≤ length lines) where
   now-held : take (s′ .held) lines′ ≡ take (s .held) lines ++ turn .shown
   now-held = ap (λ (n : ℕ). take n lines′) (turn .held) ∙ ap (take (s .held + length (turn .shown))) (turn .put) ∙ put-behind (s .held) (turn .shown) lines fits
 
@@ -103,7 +103,7 @@ pub runs-out : (T₀ T : Tables) (p : TwoUnits) (s : State) (buffer lines : List
 runs-out T₀ T p s buffer lines t h = let e = t .counted in filled T₀ T p (s .number) lines (s .held) (t .so-far) (omega arith)
 
 -- a turn of the run, r being the state that is ready for it
-module _ (T₀ T T′ : Tables) (p p′ : TwoUnits) (s r s′ : State) (buffer buffer′ lines lines′ : List ℕ) (t : Turning T₀ T p s buffer lines) (ready : Ready r buffer′ lines) (same : r .number ≡ s .number) (holds : r .held ≡ cond (keeps s buffer lines) (s .held) 0) (turn : Stepped T p r buffer′ lines T′ p′ s′ lines′) where
+module _ (T₀ T T′ : Tables) (p p′ : TwoUnits) (s r s′ : State) (buffer buffer′ lines lines′ : List ℕ) (t : Turning T₀ T p s buffer lines) (ready : Ready r buffer′ lines) (same : r .number ≡ s .number) (holds : r .held ≡ cond (keeps s buffer lines) (s .held) 0) (turn : Turned T p r buffer′ lines T′ p′ s′ lines′) where
   until-then : SoFar T₀ T p (r .number) lines (r .held)
   until-then = subst (λ (n : ℕ). SoFar T₀ T p n lines (r .held)) (sym same) (settled T₀ T p (s .number) lines (s .held) (t .so-far) (keeps s buffer lines) (r .held) holds)
 
@@ -130,18 +130,18 @@ module _ (T₀ T : Tables) (p : TwoUnits) (s : State) (buffer lines : List ℕ) 
   units-stay b = subst (λ (q : TwoUnits). Turning T₀ T q s buffer lines) (ap (λ (x : Bool). cond x freshUnits p) b) t
 
 -- a line has room where the held ones are kept, and where they are written
-module _ (s : State) (buffer lines : List ℕ) (h : 105 ≤ length lines) (k : s .held ≤ length lines) where
-  fits-by : (w q : Bool) → leb 105 (length lines - s .held) ≡ q → cond (w && q) (s .held) 0 + 105 ≤ length lines
-  fits-by true true e = let l : 105 ≤ length lines - s .held = leb-true 105 (length lines - s .held) e in omega arith
+module _ (s : State) (buffer lines : List ℕ) (h : longestLine ≤ length lines) (k : s .held ≤ length lines) where
+  fits-by : (w q : Bool) → leb longestLine (length lines - s .held) ≡ q → cond (w && q) (s .held) 0 + longestLine ≤ length lines
+  fits-by true true e = let l : longestLine ≤ length lines - s .held = leb-true longestLine (length lines - s .held) e in omega arith
   fits-by true false e = omega arith
   fits-by false q e = omega arith
 
-  pub has-room : cond (keeps s buffer lines) (s .held) 0 + 105 ≤ length lines
+  pub has-room : cond (keeps s buffer lines) (s .held) 0 + longestLine ≤ length lines
   unfolding keeps
-  has-room = fits-by (ltb 0 (standing (waiting (s .window) buffer))) (leb 105 (length lines - s .held)) refl
+  has-room = fits-by (ltb 0 (standing (waiting (s .window) buffer))) (leb longestLine (length lines - s .held)) refl
 
 -- with the header before its lines
-pub with-header : (lines : List ℕ) (held : ℕ) → Ran zeroed lines held → Answered lines held
+pub with-header : (lines : List ℕ) (held : ℕ) → Ran zeroed lines held → RanWhole lines held
 with-header lines held r =
     record {
       input = r .input;

@@ -8,9 +8,11 @@ ghost use Prim.Native.Nat.{_-_, _≤_, _<_};
 ghost use lib.ListN.{length, take};
 ghost use Rattle.layout.specs.Tables.{tables};
 ghost use Rattle.records.specs.Input.{waiting};
+ghost use Rattle.records.specs.Lines.{longestLine};
 ghost use Rattle.trace.specs.Listing.{last};
 ghost use Rattle.trace.specs.Turns.{Lies, Ready};
-ghost use Rattle.coretrace.specs.Runs.{keeps, Ran, Answered};
+ghost use Rattle.coretrace.specs.Runs.{keeps, Ran, RanWhole};
+use records::LONGEST_LINE;
 use records::Window;
 use trace::State;
 
@@ -24,7 +26,7 @@ fn keeps(s: State, buffer: &[u8], lines: &[u8]) -> bool
 {
     let w = s.window;
     if records::ready(buffer, w) {
-        return 105 <= lines.len() - s.held;
+        return LONGEST_LINE <= lines.len() - s.held;
     }
     false
 }
@@ -33,7 +35,7 @@ fn keeps(s: State, buffer: &[u8], lines: &[u8]) -> bool
 fn ahead(s: State, buffer: &mut [u8], lines: &[u8]) -> State
     requires { ⌜ Lies s (now buffer) (now lines) ⌝ }
     requires { ⌜ 65537 ≤ length (now buffer) ⌝ }
-    requires { ⌜ 105 ≤ length (now lines) ⌝ }
+    requires { ⌜ longestLine ≤ length (now lines) ⌝ }
     requires { ⌜ s .number < last ⌝ }
     ensures { λ r. ⌜ Ready r (now (buffer .exit)) (now (lines .entry)) ⌝ }
     ensures { λ r. ⌜ r .number ≡ s .number ⌝ }
@@ -61,7 +63,7 @@ fn run(
     lines: &mut [u8],
 ) -> usize
     requires { ⌜ 65537 ≤ length (now buffer) ⌝ }
-    requires { ⌜ 105 ≤ length (now lines) ⌝ }
+    requires { ⌜ longestLine ≤ length (now lines) ⌝ }
     ensures { λ r. ⌜ r ≤ length (now (lines .entry)) ⌝ }
     ensures { λ r. ⌜ Ran (tables (now (control .entry)) (now (frames .entry)) (now (pages .entry)) (now (ranges .entry))) (now (lines .exit)) r ⌝ }
 {
@@ -107,9 +109,9 @@ fn run(
 // Writes the listing of the input; returns how many first bytes of `lines` are still to be written.
 fn list(buffer: &mut [u8], lines: &mut [u8]) -> usize
     requires { ⌜ 65537 ≤ length (now buffer) ⌝ }
-    requires { ⌜ 105 ≤ length (now lines) ⌝ }
+    requires { ⌜ longestLine ≤ length (now lines) ⌝ }
     ensures { λ r. ⌜ r ≤ length (now (lines .entry)) ⌝ }
-    ensures { λ r. ⌜ Answered (now (lines .exit)) r ⌝ }
+    ensures { λ r. ⌜ RanWhole (now (lines .exit)) r ⌝ }
 {
     output::header();
     let mut control = [0u32; layout::CONTROL_WORDS];

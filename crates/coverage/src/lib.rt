@@ -2,7 +2,7 @@
 ghost use mathlib.Core.Path.{_≡_};
 ghost use mathlib.Core.Bool.{true, _&&_};
 ghost use lib.ListN.{length};
-ghost use Rattle.words.specs.Sizes.{pagesInSpace};
+ghost use Rattle.runs.specs.PageWords.{pagesInSpace};
 ghost use Rattle.words.specs.Counts.{count, one-if};
 ghost use Rattle.words.specs.Searches.{anyFrom};
 ghost use Rattle.words.specs.Rows.{refusal, numberOf};
@@ -21,7 +21,7 @@ use refusals::judge_shared;
 use refusals::outcome;
 use runs::PAGE_WORDS;
 use tablecheck::any_mapped;
-use words::PAGES;
+use runs::PAGES;
 
 // The first refusal that applies, or Done with zeros.
 fn judge_coverage(

@@ -3,9 +3,9 @@ ghost use mathlib.Core.Path.{_≡_};
 ghost use mathlib.Core.Bool.{true};
 ghost use Prim.Native.Nat.{_+_, _-_, _≤_};
 ghost use lib.ListN.{length};
-ghost use Rattle.words.specs.Sizes.{pagesInSpace};
+ghost use Rattle.runs.specs.PageWords.{pagesInSpace};
 ghost use Rattle.words.specs.Tables.{imap};
-ghost use Rattle.control.specs.Control.{controlWords, removals, lawfulControl};
+ghost use Rattle.control.specs.Control.{controlBufferWords, removals, lawfulControl};
 ghost use Rattle.history.specs.Units.{emptied};
 ghost use Rattle.history.specs.CatchUp.{removalAt, namesEntry, overlaps, keepPage, keepRange, keepLast, dropped, applied, caughtUp};
 ghost use Rattle.invalidation.specs.Entries.{withPages, withRanges};
@@ -19,7 +19,7 @@ use history::Unit;
 
 // Record m.
 fn removal_at(control: &[u32], m: u32) -> Removal
-    requires { ⌜ length (now control) ≡ controlWords ⌝ }
+    requires { ⌜ length (now control) ≡ controlBufferWords ⌝ }
     ensures { λ r. ⌜ r ≡ removalAt (now (control .entry)) m ⌝ }
 {
     let j = m % PLACES;
@@ -188,7 +188,7 @@ pub fn emptied(seen: u32) -> Unit
 
 // What the records above seen, up to number c, leave of the unit.
 fn drop_unseen(u: Unit, control: &[u32], seen: u32, c: u32) -> Unit
-    requires { ⌜ length (now control) ≡ controlWords ⌝ }
+    requires { ⌜ length (now control) ≡ controlBufferWords ⌝ }
     requires { ⌜ lawfulControl (now control) ≡ true ⌝ }
     requires { ⌜ c ≡ removals (now control) ⌝ }
     requires { ⌜ seen ≤ c ⌝ }
@@ -206,7 +206,7 @@ fn drop_unseen(u: Unit, control: &[u32], seen: u32, c: u32) -> Unit
 
 // The unit after catching up.
 pub fn caught_up(u: Unit, control: &[u32]) -> Unit
-    requires { ⌜ length (now control) ≡ controlWords ⌝ }
+    requires { ⌜ length (now control) ≡ controlBufferWords ⌝ }
     requires { ⌜ lawfulControl (now control) ≡ true ⌝ }
     requires { ⌜ u .seen ≤ removals (now control) ⌝ }
     ensures { λ r. ⌜ r ≡ caughtUp (now (control .entry)) u ⌝ }

@@ -2,7 +2,7 @@
 ghost use mathlib.Core.Path.{_≡_};
 ghost use Prim.Native.Nat.{ℕ, _-_, _≤_, _<_};
 ghost use lib.Dec.{ltb};
-ghost use Rattle.words.specs.Sizes.{pagesInSpace};
+ghost use Rattle.runs.specs.PageWords.{pagesInSpace};
 ghost use Rattle.words.specs.Searches.{allFrom, every};
 ghost use Rattle.blocks.specs.FrameWords.{largestPool};
 ghost use Rattle.history.specs.Units.{frameBy, sitsAt, pageEntryOk, rangeEntryOk, lastOk, unitOk};
@@ -18,9 +18,9 @@ use history::Unit;
 use ranges::page_words::frame_at;
 use runs::LARGEST_RIGHTS;
 use runs::Page;
-use words::LAST_PAGE;
-use words::LAST_SPACE;
-use words::PAGES;
+use runs::LAST_PAGE;
+use runs::LAST_SPACE;
+use runs::PAGES;
 
 // Whether every field of the page entry is zero.
 fn zero_page(e: PageEntry) -> bool

@@ -9,7 +9,7 @@ use Rattle.words.specs.Searches.{every}
 use Rattle.blocks.specs.FrameWords.{isOwner}
 use Rattle.runs.specs.PageWords.{mapped, frameIn}
 
--- the page of this word is mapped, with frame f
+-- page word w maps its page to frame f
 unfoldable pub mapsTo : ℕ → ℕ → Bool
 mapsTo w f = mapped w && eqb (frameIn w) f
 

@@ -4,7 +4,7 @@ ghost use Prim.Native.Nat.{_≤_};
 ghost use lib.ListN.{length};
 ghost use Rattle.runs.specs.PageWords.{rangeBit, rightsIn, frameIn};
 ghost use Rattle.runs.specs.Runs.{rangeWordsInSpace};
-ghost use Rattle.history.specs.Units.{lastPlace, frameBy};
+ghost use Rattle.history.specs.Units.{largestPlace, frameBy};
 ghost use Rattle.history.specs.Translate.{entryFor, withPage, withLast, withRange, tableEntry, tableRange, withTableRange, installed};
 use crate::entries::covers;
 use history::Finding;
@@ -42,7 +42,7 @@ fn with_last(u: Unit, k: u32) -> Unit
 
 // The unit with the range entry at the place to replace, which is then last used.
 fn with_range(u: Unit, e: RangeEntry) -> Unit
-    requires { ⌜ u .next ≤ lastPlace ⌝ }
+    requires { ⌜ u .next ≤ largestPlace ⌝ }
     ensures { λ r. ⌜ r ≡ withRange u e ⌝ }
 {
     let mut v = u;
@@ -113,7 +113,7 @@ fn after_range(u: Unit, s: u32, p: Page, k: u32, e: RangeEntry) -> Unit
 // The unit after way 3: the page word w held the page.
 fn after_word(u: Unit, s: u32, p: Page, ranges: &[u32], w: u32) -> Unit
     requires { ⌜ length (now ranges) ≡ rangeWordsInSpace ⌝ }
-    requires { ⌜ u .next ≤ lastPlace ⌝ }
+    requires { ⌜ u .next ≤ largestPlace ⌝ }
     ensures { λ r. ⌜ r ≡ withTableRange (rangeBit w) (withPage u (entryFor s (p .0) (frameIn w) (rightsIn w))) (tableRange s (now (ranges .entry)) (p .0)) ⌝ }
 {
     let f = frame_in(w);
@@ -134,7 +134,7 @@ fn after_word(u: Unit, s: u32, p: Page, ranges: &[u32], w: u32) -> Unit
 // The unit once page p of space s was found so. Way 2 installs the page entry and sets last used; way 3 installs the page entry and, if the range bit is set, the range.
 pub fn install(u: Unit, s: u32, p: Page, ranges: &[u32], f: Finding) -> Unit
     requires { ⌜ length (now ranges) ≡ rangeWordsInSpace ⌝ }
-    requires { ⌜ u .next ≤ lastPlace ⌝ }
+    requires { ⌜ u .next ≤ largestPlace ⌝ }
     ensures { λ r. ⌜ r ≡ installed u s (p .0) (now (ranges .entry)) f ⌝ }
 {
     match f {

@@ -3,11 +3,11 @@ ghost use mathlib.Core.Path.{_≡_};
 ghost use mathlib.Core.Bool.{false};
 ghost use Prim.Native.Nat.{_+_, _≤_};
 ghost use lib.ListN.{length};
-ghost use Rattle.words.specs.Sizes.{pagesInSpace};
+ghost use Rattle.runs.specs.PageWords.{pagesInSpace};
 ghost use Rattle.words.specs.Tables.{part};
 ghost use Rattle.runs.specs.Walk.{entryOf, ended};
 ghost use Rattle.runs.specs.Steps.{Decides, EndFits, WordFits, zeroFrom};
-ghost use Rattle.runs.specs.Runs.{rangeWordsInSpace, wordsInRange};
+ghost use Rattle.runs.specs.Runs.{rangeWordsInSpace, wordsInTableEntry};
 use crate::page_words::frame_in;
 use crate::page_words::mapped;
 use crate::page_words::offset;
@@ -16,13 +16,13 @@ use crate::page_words::rights_in;
 use runs::ENTRY_WORDS;
 use runs::Page;
 use runs::SMALLEST_RANGE;
-use words::PAGES;
+use runs::PAGES;
 use words::scans::all_zero;
 
 // Whether the entry at place `at` is that of the run of n pages up to `limit`, left out, whose last word is v.
 fn entry_is(ranges: &[u32], at: usize, limit: u32, n: u32, v: u32) -> bool
     requires { ⌜ length (now ranges) ≡ rangeWordsInSpace ⌝ }
-    requires { ⌜ at + wordsInRange ≤ rangeWordsInSpace ⌝ }
+    requires { ⌜ at + wordsInTableEntry ≤ rangeWordsInSpace ⌝ }
     requires { ⌜ (n ≤ limit) × (1 ≤ limit) ⌝ }
     ensures { λ r. ⌜ Decides r (part at 4 (now (ranges .entry)) ≡ entryOf limit n v) ⌝ }
 {

@@ -3,10 +3,10 @@ ghost use mathlib.Core.Path.{_≡_};
 ghost use Prim.Native.Nat.{_+_, _≤_};
 ghost use lib.ListN.{length};
 ghost use lib.Seq.{sets};
-ghost use Rattle.words.specs.Sizes.{pagesInSpace};
+ghost use Rattle.runs.specs.PageWords.{pagesInSpace};
 ghost use Rattle.runs.specs.Walk.{entryOf, ended, withBits, rangeWords};
 ghost use Rattle.runs.specs.Steps.{Marked, EndedRun, zeroFrom};
-ghost use Rattle.runs.specs.Runs.{rangeWordsInSpace, wordsInRange};
+ghost use Rattle.runs.specs.Runs.{rangeWordsInSpace, wordsInTableEntry};
 use crate::page_words::bit_word;
 use crate::page_words::frame_in;
 use crate::page_words::offset;
@@ -18,7 +18,7 @@ use crate::walk::over;
 use runs::ENTRY_WORDS;
 use runs::Page;
 use runs::SMALLEST_RANGE;
-use words::PAGES;
+use runs::PAGES;
 
 // Sets or clears the range bit of n pages from page a on.
 fn mark(part: &mut [u32], a: Page, n: u32, bit: bool)
@@ -38,7 +38,7 @@ fn mark(part: &mut [u32], a: Page, n: u32, bit: bool)
 // Writes the entry of the run of n pages up to `limit`, left out, whose last word is v.
 fn put(ranges: &mut [u32], at: usize, limit: u32, n: u32, v: u32)
     requires { ⌜ length (now ranges) ≡ rangeWordsInSpace ⌝ }
-    requires { ⌜ at + wordsInRange ≤ rangeWordsInSpace ⌝ }
+    requires { ⌜ at + wordsInTableEntry ≤ rangeWordsInSpace ⌝ }
     requires { ⌜ (n ≤ limit) × (1 ≤ limit) ⌝ }
     ensures { λ _. ⌜ now (ranges .exit) ≡ sets (now (ranges .entry)) at (entryOf limit n v) ⌝ }
 {

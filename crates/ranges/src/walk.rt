@@ -3,7 +3,7 @@ ghost use mathlib.Core.Path.{_≡_};
 ghost use mathlib.Core.Bool.{true};
 ghost use Prim.Native.Nat.{_+_, _≤_};
 ghost use lib.ListN.{length};
-ghost use Rattle.words.specs.Sizes.{pagesInSpace};
+ghost use Rattle.runs.specs.PageWords.{pagesInSpace};
 ghost use Rattle.runs.specs.PageWords.{mapped};
 ghost use Rattle.runs.specs.Walk.{joins, goesOn};
 ghost use Rattle.runs.specs.Steps.{Empty, Onward, Along};
@@ -13,7 +13,7 @@ use crate::page_words::rights_in;
 use blocks::LAST_FRAME;
 use runs::PAGE_WORDS;
 use runs::Page;
-use words::PAGES;
+use runs::PAGES;
 use words::scans::counts_beside;
 use words::scans::zero_to;
 

@@ -21,30 +21,30 @@ use Rattle.records.specs.declared.Meaning.{Meaning}
 use Rattle.records.specs.declared.Meaning.the-variants.{Malformed, Asked}
 use Rattle.recordcalls.specs.declared.TwoUnits.{TwoUnits}
 use Rattle.recordcalls.specs.declared.Step.{Step}
-use Rattle.recordcalls.specs.Steps.{freshUnits, unitAt, withUnit, renewed, answered, Taken, skipped, made, needsUnit, TakenBeside}
+use Rattle.recordcalls.specs.Steps.{freshUnits, unitAt, withUnitAt, renewed, answered, RecordTaken, skipped, made, needsUnit, TakenBeside}
 
 module _ (T : Tables) (p : TwoUnits) (m : Meaning) (k : ℕ) where
-  pub skips : (o : Outcome) → m ≡ Malformed k → o ≡ refusal 16 → Taken T p m (record { kind = k; outcome = o; units = p }) T
+  pub skips : (o : Outcome) → m ≡ Malformed k → o ≡ refusal 16 → RecordTaken T p m (record { kind = k; outcome = o; units = p }) T
   skips o e f =
-      subst (λ (x : Meaning). Taken T p x (record { kind = k; outcome = o; units = p }) T) (sym e)
-      (subst (λ (x : Outcome). Taken T p (Malformed k) (record { kind = k; outcome = x; units = p }) T) (sym f) skipped)
+      subst (λ (x : Meaning). RecordTaken T p x (record { kind = k; outcome = o; units = p }) T) (sym e)
+      (subst (λ (x : Outcome). RecordTaken T p (Malformed k) (record { kind = k; outcome = x; units = p }) T) (sym f) skipped)
 
-  pub asks : (n : ℕ) (c : Call) (r : Step) (T′ : Tables) → m ≡ Asked k n c → Taken T p (Asked k n c) r T′ → Taken T p m r T′
-  asks n c r T′ e t = subst (λ (x : Meaning). Taken T p x r T′) (sym e) t
+  pub asks : (n : ℕ) (c : Call) (r : Step) (T′ : Tables) → m ≡ Asked k n c → RecordTaken T p (Asked k n c) r T′ → RecordTaken T p m r T′
+  asks n c r T′ e t = subst (λ (x : Meaning). RecordTaken T p x r T′) (sym e) t
 
 -- a call on unit n: it answered a and left the unit u
 module _ (T T′ : Tables) (p : TwoUnits) (k n : ℕ) (c : Call) (v u : TlbUnit) (a o : Outcome) (q : TwoUnits) where
-  answers : o ≡ a → q ≡ renewed k a (withUnit p n u) → record { kind = k; outcome = o; units = q } ≡ answered k n p a u
+  answers : o ≡ a → q ≡ renewed k a (withUnitAt p n u) → record { kind = k; outcome = o; units = q } ≡ answered k n p a u
   unfolding answered
   answers eo eq = rw (eo, eq)
 
-  pub makes-on : v ≡ unitAt p n → Does true T v a c T′ u → o ≡ a → q ≡ renewed k a (withUnit p n u) → Taken T p (Asked k n c) (record { kind = k; outcome = o; units = q }) T′
-  makes-on e does eo eq = subst (λ (x : Step). Taken T p (Asked k n c) x T′) (sym (answers eo eq)) (made (subst (λ (x : TlbUnit). Does true T x a c T′ u) e does))
+  pub makes-on : v ≡ unitAt p n → Does true T v a c T′ u → o ≡ a → q ≡ renewed k a (withUnitAt p n u) → RecordTaken T p (Asked k n c) (record { kind = k; outcome = o; units = q }) T′
+  makes-on e does eo eq = subst (λ (x : Step). RecordTaken T p (Asked k n c) x T′) (sym (answers eo eq)) (made (subst (λ (x : TlbUnit). Does true T x a c T′ u) e does))
 
 -- a record taken beside the units
 
-same-units : (p : TwoUnits) (n : ℕ) → withUnit p n (unitAt p n) ≡ p
-unfolding withUnit unitAt
+same-units : (p : TwoUnits) (n : ℕ) → withUnitAt p n (unitAt p n) ≡ p
+unfolding withUnitAt unitAt
 same-units p n = by-test (eqb n 0) (λ t. rw t) (λ f. rw f)
 
 -- a call on a unit needs one
@@ -61,7 +61,7 @@ module _ (T : Tables) (m : Meaning) (k : ℕ) where
     unfolding renewed
     makes-beside a o b on eo eb = record {
       taken = λ p.
-          let z : cond b freshUnits p ≡ renewed k a (withUnit p n (unitAt p n)) = rw (eb, same-units p n) in
+          let z : cond b freshUnits p ≡ renewed k a (withUnitAt p n (unitAt p n)) = rw (eb, same-units p n) in
           asks T p m k n (OnTables c) _ T′ (e ∙ ap (Asked k n) q) (makes-on T T′ p k n (OnTables c) (unitAt p n) (unitAt p n) a o (cond b freshUnits p) refl (called-does T (unitAt p n) a c T′ on) eo z);
     }
 

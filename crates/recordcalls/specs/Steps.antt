@@ -23,8 +23,8 @@ unfoldable pub unitAt : TwoUnits → ℕ → TlbUnit
 unitAt p n = cond (eqb n 0) (p .first) (p .second)
 
 -- the units with unit n changed
-unfoldable pub withUnit : TwoUnits → ℕ → TlbUnit → TwoUnits
-withUnit p n u = cond (eqb n 0) (record { first = u; second = p .second }) (record { first = p .first; second = u })
+unfoldable pub withUnitAt : TwoUnits → ℕ → TlbUnit → TwoUnits
+withUnitAt p n u = cond (eqb n 0) (record { first = u; second = p .second }) (record { first = p .first; second = u })
 
 -- "1 set up F (once accepted, also both units)"
 unfoldable pub renewed : ℕ → Outcome → TwoUnits → TwoUnits
@@ -32,12 +32,12 @@ renewed k o p = cond (eqb k 1 && accepted o) freshUnits p
 
 -- what is shown of a call on unit n that answered o and left the unit u, and the units afterwards
 unfoldable pub answered : ℕ → ℕ → TwoUnits → Outcome → TlbUnit → Step
-answered k n p o u = record { kind = k; outcome = o; units = renewed k o (withUnit p n u) }
+answered k n p o u = record { kind = k; outcome = o; units = renewed k o (withUnitAt p n u) }
 
 -- "16 malformed record; it makes no call"; any other makes its call, on its unit
-pub data Taken (T : Tables) (p : TwoUnits) : Meaning → Step → Tables → Type 0 where
-  skipped : {k : ℕ} → Taken T p (Malformed k) (record { kind = k; outcome = refusal 16; units = p }) T
-  made : {k n : ℕ} {c : Call} {o : Outcome} {u : TlbUnit} {T′ : Tables} → Does true T (unitAt p n) o c T′ u → Taken T p (Asked k n c) (answered k n p o u) T′
+pub data RecordTaken (T : Tables) (p : TwoUnits) : Meaning → Step → Tables → Type 0 where
+  skipped : {k : ℕ} → RecordTaken T p (Malformed k) (record { kind = k; outcome = refusal 16; units = p }) T
+  made : {k n : ℕ} {c : Call} {o : Outcome} {u : TlbUnit} {T′ : Tables} → Does true T (unitAt p n) o c T′ u → RecordTaken T p (Asked k n c) (answered k n p o u) T′
 
 -- whether a record asks for a call that is lent a unit; a malformed one makes no call
 unfoldable pub needsUnit : Meaning → Bool
@@ -46,4 +46,4 @@ needsUnit (Asked k n c) = takesUnit c
 
 -- a record taken beside the units: whatever they are, they stay or become fresh, so it is taken without them
 pub record TakenBeside (T : Tables) (m : Meaning) (r : Shown) (T′ : Tables) : Type 0 where
-  pub taken : (p : TwoUnits) → Taken T p m (record { kind = r .kind; outcome = r .outcome; units = cond (r .renews) freshUnits p }) T′
+  pub taken : (p : TwoUnits) → RecordTaken T p m (record { kind = r .kind; outcome = r .outcome; units = cond (r .renews) freshUnits p }) T′

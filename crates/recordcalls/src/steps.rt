@@ -7,7 +7,7 @@ ghost use Rattle.layout.specs.Answers.{outcome};
 ghost use Rattle.layout.specs.Tables.{tables};
 ghost use Rattle.history.specs.Lists.{takesUnit};
 ghost use Rattle.records.specs.declared.Meaning.the-variants.{Asked};
-ghost use Rattle.recordcalls.specs.Steps.{freshUnits, unitAt, withUnit, Taken, needsUnit, TakenBeside};
+ghost use Rattle.recordcalls.specs.Steps.{freshUnits, unitAt, withUnitAt, RecordTaken, needsUnit, TakenBeside};
 use crate::Shown;
 use crate::Step;
 use crate::TwoUnits;
@@ -52,7 +52,7 @@ fn unit_at(p: TwoUnits, n: u32) -> Unit
 
 // The units with unit n changed.
 fn with_unit(p: TwoUnits, n: u32, u: Unit) -> TwoUnits
-    ensures { λ r. ⌜ r ≡ withUnit p n u ⌝ }
+    ensures { λ r. ⌜ r ≡ withUnitAt p n u ⌝ }
 {
     let mut q = p;
     if n == 0 {
@@ -85,7 +85,7 @@ fn on_unit(
     pages: &mut [u32],
     ranges: &mut [u32],
 ) -> Step
-    ensures { λ r. ⌜ Taken (tables (now (control .entry)) (now (frames .entry)) (now (pages .entry)) (now (ranges .entry))) p (Asked kind n call) r (tables (now (control .exit)) (now (frames .exit)) (now (pages .exit)) (now (ranges .exit))) ⌝ }
+    ensures { λ r. ⌜ RecordTaken (tables (now (control .entry)) (now (frames .entry)) (now (pages .entry)) (now (ranges .entry))) p (Asked kind n call) r (tables (now (control .exit)) (now (frames .exit)) (now (pages .exit)) (now (ranges .exit))) ⌝ }
 {
     let t = units::perform(call, unit_at(p, n), control, frames, pages, ranges);
     let a = t.answer;
@@ -133,7 +133,7 @@ pub fn take(
     pages: &mut [u32],
     ranges: &mut [u32],
 ) -> Step
-    ensures { λ r. ⌜ Taken (tables (now (control .entry)) (now (frames .entry)) (now (pages .entry)) (now (ranges .entry))) p m r (tables (now (control .exit)) (now (frames .exit)) (now (pages .exit)) (now (ranges .exit))) ⌝ }
+    ensures { λ r. ⌜ RecordTaken (tables (now (control .entry)) (now (frames .entry)) (now (pages .entry)) (now (ranges .entry))) p m r (tables (now (control .exit)) (now (frames .exit)) (now (pages .exit)) (now (ranges .exit))) ⌝ }
 {
     match m {
         Meaning::Malformed(kind) => Step {

@@ -9,7 +9,7 @@ use borrow.Author.Tests.{lt-ltb, le-ltb, eq-eqb, ne-eqb}
 use Rattle.words.proofs.RefusalLaws.{refused, passed, decided}
 use Rattle.history.specs.declared.Call.{Call}
 use Rattle.records.specs.declared.Meaning.the-variants.{Malformed, Asked}
-use Rattle.records.specs.Records.{wordAt, kindOf, recordLength, unitBy, callBy, tooShort, unknownKind, wrongLength, noSuchUnit, meaning}
+use Rattle.records.specs.Records.{wordAt, kindOf, recordLength, unitBy, callBy, tooShort, unknownKind, wrongRecordLength, noSuchUnit, meaning}
 
 pub word-is : (b : List ℕ) (i low high r : ℕ) → r ≡ low + 256 * high → low ≡ getD b i 0 → high ≡ getD b (i + 1) 0 → r ≡ wordAt b i
 unfolding wordAt
@@ -39,7 +39,7 @@ module _ (b : List ℕ) where
 
       module _ (n : ℕ) (is-length : n ≡ recordLength k) where
         pub wrong-length : (length b ≡ n → ⊥) → Malformed k ≡ meaning b
-        unfolding meaning tooShort unknownKind wrongLength
+        unfolding meaning tooShort unknownKind wrongRecordLength
         wrong-length h =
             ap Malformed e
             ∙ sym (passed _ _ _ _ (le-ltb _ _ long) ∙ passed _ _ _ _ known ∙ refused _ _ _ _ (ap not (ne-eqb _ _ (λ l. h (l ∙ ap recordLength (sym e) ∙ sym is-length)))))
@@ -52,13 +52,13 @@ module _ (b : List ℕ) where
           exactly = eq-eqb _ _ (exact ∙ is-length ∙ ap recordLength e)
 
           pub no-unit : 1 < u → Malformed k ≡ meaning b
-          unfolding meaning tooShort unknownKind wrongLength noSuchUnit
+          unfolding meaning tooShort unknownKind wrongRecordLength noSuchUnit
           no-unit h =
               ap Malformed e
               ∙ sym (passed _ _ _ _ (le-ltb _ _ long) ∙ passed _ _ _ _ known ∙ passed _ _ _ _ (ap not exactly) ∙ refused _ _ _ _ (lt-ltb _ _ (subst (λ (x : ℕ). 1 < x) unit-is h)))
 
           pub asked : u ≤ 1 → (d : Call) → d ≡ callBy k b → Asked k u d ≡ meaning b
-          unfolding meaning tooShort unknownKind wrongLength noSuchUnit
+          unfolding meaning tooShort unknownKind wrongRecordLength noSuchUnit
           asked h d is-call =
               ap (λ (x : ℕ). Asked x u d) e
               ∙ ap (λ (x : ℕ). Asked (kindOf b) x d) unit-is

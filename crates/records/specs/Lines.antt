@@ -24,6 +24,10 @@ written at l out = take at out ++ (l ++ drop (at + length l) out)
 unfoldable pub cell : ℕ → ℕ → List ℕ
 cell n after = decimal n ++ (after ∷ [])
 
+-- five numbers of at most 20 digits, and a byte behind each
+abbrev pub longestLine : ℕ
+longestLine = 105
+
 unfoldable pub line : ℕ → ℕ → Outcome → List ℕ
 line number kind o = cell number 32 ++ cell kind 32 ++ cell (o .number) 32 ++ cell (o .first) 32 ++ cell (o .second) 10
 

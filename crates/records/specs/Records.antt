@@ -56,12 +56,12 @@ tooShort b = record { when = ltb (length b) 2; answer = Malformed 0 }
 unfoldable pub unknownKind : List ℕ → Refusal Meaning
 unknownKind b = record { when = ltb (kindOf b) 1 || ltb 8 (kindOf b); answer = Malformed (kindOf b) }
 
-unfoldable pub wrongLength : List ℕ → Refusal Meaning
-wrongLength b = record { when = not (eqb (length b) (recordLength (kindOf b))); answer = Malformed (kindOf b) }
+unfoldable pub wrongRecordLength : List ℕ → Refusal Meaning
+wrongRecordLength b = record { when = not (eqb (length b) (recordLength (kindOf b))); answer = Malformed (kindOf b) }
 
 unfoldable pub noSuchUnit : List ℕ → Refusal Meaning
 noSuchUnit b = record { when = ltb 1 (unitBy (kindOf b) b); answer = Malformed (kindOf b) }
 
 -- what a record asks for
 unfoldable pub meaning : List ℕ → Meaning
-meaning b = decide (tooShort b ∷ unknownKind b ∷ wrongLength b ∷ noSuchUnit b ∷ []) (Asked (kindOf b) (unitBy (kindOf b) b) (callBy (kindOf b) b))
+meaning b = decide (tooShort b ∷ unknownKind b ∷ wrongRecordLength b ∷ noSuchUnit b ∷ []) (Asked (kindOf b) (unitBy (kindOf b) b) (callBy (kindOf b) b))

@@ -11,6 +11,9 @@ pub use crate::lines::heading;
 pub use crate::lines::line;
 use history::Call;
 
+// The most bytes of a line.
+pub const LONGEST_LINE: usize = 105;
+
 // What a record asks for: nothing where it is malformed, with the kind to be shown; else a call, on unit 0 or 1 (0 where the call takes none).
 pub enum Meaning {
     Malformed(u32),

@@ -3,7 +3,7 @@ ghost use mathlib.Core.Path.{_≡_};
 ghost use Prim.Native.Nat.{_+_, _≤_};
 ghost use lib.ListN.{length};
 ghost use lib.Seq.{paste};
-ghost use Rattle.records.specs.Lines.{written, cell, line, header};
+ghost use Rattle.records.specs.Lines.{longestLine, written, cell, line, header};
 use words::Outcome;
 
 // The header line.
@@ -42,10 +42,10 @@ fn put(n: u64, after: u8, out: &mut [u8], at: usize) -> usize
 
 // Puts a record's line at place `at` of `out`, and answers the place after it.
 pub fn line(number: u64, kind: u32, o: Outcome, out: &mut [u8], at: usize) -> usize
-    requires { ⌜ at + 105 ≤ length (now out) ⌝ }
+    requires { ⌜ at + longestLine ≤ length (now out) ⌝ }
     ensures { λ r. ⌜ now (out .exit) ≡ written at (line number kind o) (now (out .entry)) ⌝ }
     ensures { λ r. ⌜ r ≡ at + length (line number kind o) ⌝ }
-    ensures { λ r. ⌜ r ≤ at + 105 ⌝ }
+    ensures { λ r. ⌜ r ≤ at + longestLine ⌝ }
 {
     let a = put(number, b' ', out, at);
     let b = put(kind as u64, b' ', out, a);

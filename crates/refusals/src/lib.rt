@@ -4,10 +4,10 @@ mod spans;
 ghost use mathlib.Core.Path.{_≡_};
 ghost use lib.Dec.{eqb};
 ghost use lib.ListN.{length};
-ghost use Rattle.words.specs.Sizes.{largestWord};
+ghost use Rattle.words.specs.Wrapping.{largestWord};
 ghost use Rattle.words.specs.Refusals.{decide};
 ghost use Rattle.words.specs.Rows.{refusal, numberOf};
-ghost use Rattle.control.specs.Control.{controlWords, removals};
+ghost use Rattle.control.specs.Control.{controlBufferWords, removals};
 ghost use Rattle.layout.specs.declared.TableCall.the-variants.{SetUpPool, Open, Close, Map, Unmap, Protect};
 ghost use Rattle.layout.specs.Answers.{outcome};
 ghost use Rattle.layout.specs.Tables.{tables};
@@ -22,9 +22,9 @@ use tablecheck::any_mapped;
 use tablecheck::right_lengths;
 use tablecheck::tables_sound;
 use words::LARGEST_WORD;
-use words::LAST_SPACE;
+use runs::LAST_SPACE;
 use words::Outcome;
-use words::PAGES;
+use runs::PAGES;
 
 // The number of a refusal, with zeros.
 fn refusal(number: u32) -> Outcome
@@ -104,7 +104,7 @@ pub fn judge_shared(
 
 // Whether the removal numbers are used up.
 fn no_number_left(control: &[u32]) -> bool
-    requires { ⌜ length (now control) ≡ controlWords ⌝ }
+    requires { ⌜ length (now control) ≡ controlBufferWords ⌝ }
     ensures { λ r. ⌜ r ≡ eqb (removals (now (control .entry))) largestWord ⌝ }
 {
     control::removal_count(control) == LARGEST_WORD

@@ -3,17 +3,17 @@ ghost use mathlib.Core.Path.{_≡_};
 ghost use lib.ListN.{length};
 ghost use Rattle.words.specs.Refusals.{decide};
 ghost use Rattle.words.specs.Rows.{refusal};
-ghost use Rattle.control.specs.Control.{controlWords};
+ghost use Rattle.control.specs.Control.{controlBufferWords};
 ghost use Rattle.layout.specs.Answers.{outcome};
 ghost use Rattle.refusals.specs.Parts.{ofSpan};
 use layout::Answer;
 use runs::LARGEST_RIGHTS;
 use tablecheck::is_span;
-use words::LAST_SPACE;
+use runs::LAST_SPACE;
 
 // A span of an open space, with rights: 5, 6, 8, 10.
 pub fn judge_span(control: &[u32], space: u32, first: u32, count: u32, rights: u32) -> Answer
-    requires { ⌜ length (now control) ≡ controlWords ⌝ }
+    requires { ⌜ length (now control) ≡ controlBufferWords ⌝ }
     ensures { λ r. ⌜ outcome r ≡ refusal (decide (ofSpan (now (control .entry)) space first count rights) 0) ⌝ }
 {
     if LAST_SPACE < space {

@@ -5,6 +5,20 @@ use Prim.Native.Nat.{ℕ, _+_, _*_, _/_, _%_}
 use lib.Dec.{leb, eqb}
 use Rattle.words.specs.Counts.{one-if}
 
+-- "spaces 0 to 3"
+abbrev pub spaces : ℕ
+spaces = 4
+
+abbrev pub lastSpace : ℕ
+lastSpace = 3
+
+-- "1,024 for each of spaces 0 to 3": pages 0 to 1,023
+abbrev pub pagesInSpace : ℕ
+pagesInSpace = 1024
+
+abbrev pub lastPage : ℕ
+lastPage = 1023
+
 -- "65,536 + 32,768 × range bit + 4,096 × rights + frame"
 abbrev pub mappedPart : ℕ
 mappedPart = 65536
@@ -14,6 +28,10 @@ rangeBitFactor = 32768
 
 abbrev pub rightsFactor : ℕ
 rightsFactor = 4096
+
+-- "Rights add read 1, write 2, execute 4": eight values
+abbrev pub rightsValues : ℕ
+rightsValues = 8
 
 -- "0 to 7 are allowed"
 abbrev pub largestRights : ℕ
@@ -33,8 +51,9 @@ unfoldable pub rangeBit : ℕ → Bool
 rangeBit w = eqb (w / rangeBitFactor % 2) 1
 
 unfoldable pub rightsIn : ℕ → ℕ
-rightsIn w = w / rightsFactor % (largestRights + 1)
+rightsIn w = w / rightsFactor % rightsValues
 
+-- the frame is what is left below the rights
 unfoldable pub frameIn : ℕ → ℕ
 frameIn w = w % rightsFactor
 

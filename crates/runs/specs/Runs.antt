@@ -4,7 +4,7 @@ use mathlib.Core.Bool.{true}
 use mathlib.Core.List.{List, [], _∷_, _++_}
 use Prim.Native.Nat.{ℕ, suc, _+_, _-_, _^_, _≤_, _<_}
 use lib.ListN.{length, getD, replicate}
-use Rattle.words.specs.Sizes.{wordBits}
+use Rattle.words.specs.Wrapping.{wordBits}
 use Rattle.words.specs.Wrapping.{wrapAdd}
 use Rattle.runs.specs.PageWords.{mapped, rangeBit, rightsIn, frameIn, isPageWord}
 
@@ -16,8 +16,8 @@ smallestRange = 8
 abbrev pub rangesInSpace : ℕ
 rangesInSpace = 128
 
-abbrev pub wordsInRange : ℕ
-wordsInRange = 4
+abbrev pub wordsInTableEntry : ℕ
+wordsInTableEntry = 4
 
 abbrev pub rangeWordsInSpace : ℕ
 rangeWordsInSpace = 512

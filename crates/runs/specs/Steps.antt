@@ -6,10 +6,10 @@ use Prim.Native.Nat.{ℕ, _+_, _-_, _≤_, _<_}
 use lib.Dec.{leb}
 use lib.ListN.{length, getD, take, replicate}
 use lib.Seq.{sets}
-use Rattle.words.specs.Sizes.{pagesInSpace}
+use Rattle.runs.specs.PageWords.{pagesInSpace}
 use Rattle.words.specs.Tables.{part}
 use Rattle.runs.specs.PageWords.{rightsFactor, mapped, rangeBit, frameIn, isPageWord}
-use Rattle.runs.specs.Runs.{smallestRange, wordsInRange}
+use Rattle.runs.specs.Runs.{smallestRange, wordsInTableEntry}
 use Rattle.runs.specs.Walk.{bitWord, entryOf, ended}
 
 -- a test that decides a statement
@@ -63,7 +63,7 @@ pub record EndedRun (xs rs : List ℕ) (on : Bool) (at b n v r : ℕ) (xs′ rs�
 -- where the run of n pages ends before page b, at word v: the range bit of its last page is right, and so is the entry at place `at`
 pub record EndFits (rs : List ℕ) (on : Bool) (at b n v : ℕ) : Type 0 where
   pub bit : on ≡ false → rangeBit v ≡ leb smallestRange n
-  pub entry : on ≡ false → smallestRange ≤ n → part at wordsInRange rs ≡ entryOf b n v
+  pub entry : on ≡ false → smallestRange ≤ n → part at wordsInTableEntry rs ≡ entryOf b n v
 
 -- word w after word v is of the layout, and if mapped has the range bit of v where it extends the run
 pub record WordFits (on : Bool) (v w : ℕ) : Type 0 where

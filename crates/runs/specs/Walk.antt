@@ -5,7 +5,7 @@ use Prim.Native.Nat.{ℕ, zero, suc, _+_, _-_}
 use lib.Dec.{leb, eqb}
 use lib.ListN.{length, getD, replicate}
 use Rattle.words.specs.Counts.{one-if}
-use Rattle.words.specs.Sizes.{wordBits}
+use Rattle.words.specs.Wrapping.{wordBits}
 use Rattle.words.specs.Wrapping.{wrapSub}
 use Rattle.runs.specs.PageWords.{pageWord, mapped, rightsIn, frameIn}
 use Rattle.runs.specs.Runs.{smallestRange, rangeWordsInSpace}
@@ -32,7 +32,7 @@ runBefore ws (suc i) = goesOn (runBefore ws i) (wordBefore ws i) (getD ws i 0)
 unfoldable pub runTo : List ℕ → ℕ → ℕ
 runTo ws p = runBefore ws (p + 1)
 
--- how many of the words ws extend the run of v
+-- how many of the words ws, from the first on, extend the run of v
 unfoldable pub runAfter : ℕ → List ℕ → ℕ
 runAfter v [] = 0
 runAfter v (w ∷ ws) = elim (joins v w) [ true ↦ suc (runAfter w ws) | false ↦ 0 ]
@@ -58,7 +58,7 @@ entryOf b n v = (b - n) ∷ b ∷ wrapSub wordBits (frameIn v) (b - 1) ∷ right
 unfoldable pub ended : Bool → ℕ → ℕ → ℕ → List ℕ
 ended on b n v = elim on [ true ↦ [] | false ↦ elim (leb smallestRange n) [ true ↦ entryOf b n v | false ↦ [] ] ]
 
--- the entries of the runs that end at or after page b, where the running length is n at the word v before it
+-- the entries of the runs whose LIMIT is b or above, where the running length is n at the word v before it
 unfoldable pub entriesFrom : ℕ → ℕ → ℕ → List ℕ → List ℕ
 entriesFrom b n v [] = ended false b n v
 entriesFrom b n v (w ∷ ws) = ended (joins v w) b n v ++ entriesFrom (suc b) (goesOn n v w) w ws

@@ -5,8 +5,7 @@ ghost use Prim.Native.Nat.{_+_, _^_, _≤_};
 ghost use lib.ListN.{length};
 ghost use Rattle.words.specs.Counts.{count};
 ghost use Rattle.blocks.specs.FrameWords.{ownersOf, freeIn, lawful, frameWords};
-ghost use Rattle.blocks.specs.Taking.{Searched, BlockTaken};
-ghost use Rattle.blocks.specs.Calls.{Taken};
+ghost use Rattle.blocks.specs.Taking.{Searched, BlockTaken, FramesTaken};
 ghost use Rattle.blocks.specs.Inner.Passes.{Halved, Begins, handed};
 use crate::choosing::bound_after;
 use crate::choosing::choose;
@@ -76,7 +75,7 @@ pub fn take_frames(frames: &mut [u32], pool: u32, owner: u32, out: &mut [u32]) -
     requires { ⌜ length (now out) ≤ count pool (freeIn (now frames)) ⌝ }
     requires { ⌜ 1 ≤ owner ⌝ }
     requires { ⌜ owner + length (now out) ≤ 4097 ⌝ }
-    ensures { λ r. ⌜ Taken pool (now (frames .entry)) owner (length (now (out .entry))) r (now (frames .exit)) (now (out .exit)) ⌝ }
+    ensures { λ r. ⌜ FramesTaken pool (now (frames .entry)) owner (length (now (out .entry))) r (now (frames .exit)) (now (out .exit)) ⌝ }
 {
     let n = out.len();
     let mut done: usize = 0;

@@ -7,7 +7,7 @@ ghost use mathlib.Core.Path.{_≡_};
 ghost use mathlib.Core.Bool.{true};
 ghost use Prim.Native.Nat.{_+_, _≤_};
 ghost use lib.ListN.{length};
-ghost use Rattle.words.specs.Sizes.{pagesInSpace, lastSpace};
+ghost use Rattle.runs.specs.PageWords.{pagesInSpace, lastSpace};
 ghost use Rattle.words.specs.Counts.{count};
 ghost use Rattle.blocks.specs.FrameWords.{lawful, ownersOf, freeIn, frameWords};
 ghost use Rattle.blocks.specs.Choice.{framesFor, blockCount};
@@ -20,7 +20,7 @@ use crate::unmapping::unmap_space;
 use runs::PAGE_WORDS;
 use runs::Page;
 use runs::RANGE_WORDS;
-use words::PAGES;
+use runs::PAGES;
 
 // Maps n pages from `first` on to frames that the map rule takes; how many blocks were taken.
 pub fn map_pages(

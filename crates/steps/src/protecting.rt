@@ -4,7 +4,7 @@ ghost use mathlib.Core.Bool.{false, not};
 ghost use Prim.Native.Nat.{_+_, _≤_};
 ghost use lib.Dec.{eqb};
 ghost use lib.ListN.{length};
-ghost use Rattle.words.specs.Sizes.{pagesInSpace};
+ghost use Rattle.runs.specs.PageWords.{pagesInSpace};
 ghost use Rattle.words.specs.Counts.{one-if};
 ghost use Rattle.runs.specs.PageWords.{pageWord, rightsIn, frameIn};
 ghost use Rattle.runs.specs.Runs.{rangeWordsInSpace};

@@ -15,7 +15,7 @@ use Rattle.words.proofs.Cases.{by-test, by-dec, true-false}
 use Rattle.words.proofs.SearchLaws.{allFrom-at, at-allFrom, every-at, at-every}
 use Rattle.blocks.specs.FrameWords.{ownedIn, lawful}
 use Rattle.blocks.proofs.Published.{size-test}
-use Rattle.control.specs.Control.{controlWords, poolSize, openMask, isOpen, lawfulControl}
+use Rattle.control.specs.Control.{controlBufferWords, poolSize, openMask, isOpen, lawfulControl}
 use Rattle.control.proofs.ControlLaws.{lawful-says}
 use Rattle.layout.specs.Pointing.{pageOk}
 use Rattle.layout.proofs.PointingLaws.{pages-pass, mapped-held, by-count}
@@ -23,24 +23,15 @@ use Rattle.layout.specs.Tables.{Tables, tables, rightLengths, spacePages, space
 use Rattle.layout.specs.Sound.{sound}
 use Rattle.layout.proofs.SpaceLaws.{part-at}
 use Rattle.layout.proofs.SoundLaws.{Lengths, lengths-at, space-room, pages-long, Parts, sound-parts, parts-sound, none-at, at-none, closed-at, at-closed}
-use Rattle.tablecheck.specs.Judging.{pageMapped, spaceSound, soundBuffers}
+use Rattle.tablecheck.specs.Judging.{pageMapped, spaceSound}
 use Rattle.tablecheck.proofs.WalkingLaws.{fits-says, says-fits, part-says, says-part}
-
--- buffers of any lengths
-pub bad-lengths : (T : Tables) → rightLengths T ≡ false → false ≡ soundBuffers T
-unfolding soundBuffers
-bad-lengths T f = rw f
-
-pub by-tables : (T : Tables) → rightLengths T ≡ true → (r : Bool) → r ≡ sound T → r ≡ soundBuffers T
-unfolding soundBuffers
-by-tables T t r e = rw t e
 
 -- lengths
 
 pub wrong-lengths : (T : Tables) → (Lengths T → ⊥) → false ≡ rightLengths T
 wrong-lengths T n = by-test (rightLengths T) (λ t. absurd (n (lengths-at T t))) (λ t. sym t)
 
-pub lengths-last : (c fs ps rs : List ℕ) → length c ≡ controlWords → length fs ≡ 4096 → length ps ≡ 4096 → eqb (length rs) 2048 ≡ rightLengths (tables c fs ps rs)
+pub lengths-last : (c fs ps rs : List ℕ) → length c ≡ controlBufferWords → length fs ≡ 4096 → length ps ≡ 4096 → eqb (length rs) 2048 ≡ rightLengths (tables c fs ps rs)
 unfolding rightLengths
 lengths-last c fs ps rs x y z = rw (eq-eqb _ _ x, eq-eqb _ _ y, eq-eqb _ _ z)
 

@@ -4,14 +4,12 @@ use mathlib.Core.Bool.{Bool, _&&_, _||_, not}
 use mathlib.Core.List.{List}
 use Prim.Native.Nat.{ℕ, _+_, _*_, _<_}
 use lib.ListN.{getD}
-use Rattle.words.specs.Sizes.{pagesInSpace}
 use Rattle.words.specs.Searches.{every}
-use Rattle.runs.specs.PageWords.{mapped}
+use Rattle.runs.specs.PageWords.{pagesInSpace, mapped}
 use Rattle.runs.specs.Walk.{lawfulRanges}
 use Rattle.control.specs.Control.{isOpen}
 use Rattle.layout.specs.Pointing.{pageOk}
-use Rattle.layout.specs.Tables.{Tables, rightLengths, spacePages, spaceRanges}
-use Rattle.layout.specs.Sound.{sound}
+use Rattle.layout.specs.Tables.{spacePages, spaceRanges}
 
 -- page p is mapped, by a space's words
 unfoldable pub pageMapped : List ℕ → ℕ → Bool
@@ -27,10 +25,6 @@ partSound opened fs F a ws xs = lawfulRanges ws xs && every (pageFits opened fs 
 
 unfoldable pub spaceSound : ℕ → List ℕ → ℕ → List ℕ → List ℕ → ℕ → Bool
 spaceSound mask fs F ps rs s = partSound (isOpen mask s) fs F (pagesInSpace * s) (spacePages ps s) (spaceRanges rs s)
-
--- buffers of any lengths: "four buffers with exact lengths", and sound
-unfoldable pub soundBuffers : Tables → Bool
-soundBuffers T = rightLengths T && sound T
 
 -- the k frames after frame f are below F, and their words name the places i, i + 1, .. of the page buffer
 pub record Named (fs : List ℕ) (F f i k : ℕ) : Type 0 where

@@ -3,7 +3,6 @@ mod soundness;
 mod spans;
 mod walking;
 
-pub use crate::soundness::check;
 pub use crate::soundness::right_lengths;
 pub use crate::soundness::tables_sound;
 pub use crate::spans::all_mapped;

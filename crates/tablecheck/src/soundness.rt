@@ -2,10 +2,9 @@
 ghost use mathlib.Core.Path.{_≡_};
 ghost use lib.ListN.{length};
 ghost use Rattle.blocks.specs.FrameWords.{frameBufferWords};
-ghost use Rattle.control.specs.Control.{controlWords};
+ghost use Rattle.control.specs.Control.{controlBufferWords};
 ghost use Rattle.layout.specs.Tables.{pageBufferWords, rangeBufferWords, tables, rightLengths};
 ghost use Rattle.layout.specs.Sound.{sound};
-ghost use Rattle.tablecheck.specs.Judging.{soundBuffers};
 use crate::walking::walk_spaces;
 use layout::CONTROL_WORDS;
 use layout::FRAME_BUFFER_WORDS;
@@ -31,7 +30,7 @@ pub fn right_lengths(control: &[u32], frames: &[u32], pages: &[u32], ranges: &[u
 // Whether the tables keep every layout and rule. One pass over each buffer: where each mapped page's frame names the page, the held frames name
 // their pages too as soon as there are as many of the one as of the other.
 pub fn tables_sound(control: &[u32], frames: &[u32], pages: &[u32], ranges: &[u32]) -> bool
-    requires { ⌜ length (now control) ≡ controlWords ⌝ }
+    requires { ⌜ length (now control) ≡ controlBufferWords ⌝ }
     requires { ⌜ length (now frames) ≡ frameBufferWords ⌝ }
     requires { ⌜ length (now pages) ≡ pageBufferWords ⌝ }
     requires { ⌜ length (now ranges) ≡ rangeBufferWords ⌝ }
@@ -51,14 +50,4 @@ pub fn tables_sound(control: &[u32], frames: &[u32], pages: &[u32], ranges: &[u3
         return false;
     }
     walked.mapped == judged.held
-}
-
-// Whether buffers of any lengths are four buffers of sound tables.
-pub fn check(control: &[u32], frames: &[u32], pages: &[u32], ranges: &[u32]) -> bool
-    ensures { λ r. ⌜ r ≡ soundBuffers (tables (now (control .entry)) (now (frames .entry)) (now (pages .entry)) (now (ranges .entry))) ⌝ }
-{
-    if !right_lengths(control, frames, pages, ranges) {
-        return false;
-    }
-    tables_sound(control, frames, pages, ranges)
 }

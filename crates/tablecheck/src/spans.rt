@@ -2,12 +2,12 @@
 ghost use mathlib.Core.Path.{_≡_};
 ghost use Prim.Native.Nat.{_+_, _≤_};
 ghost use lib.ListN.{length};
-ghost use Rattle.words.specs.Sizes.{pagesInSpace};
+ghost use Rattle.runs.specs.PageWords.{pagesInSpace};
 ghost use Rattle.words.specs.Searches.{allFrom, anyFrom};
 ghost use Rattle.layout.specs.Calls.{isSpan};
 ghost use Rattle.tablecheck.specs.Judging.{pageMapped};
 use ranges::page_words::mapped;
-use words::PAGES;
+use runs::PAGES;
 
 // Whether the span has a page and ends by page 1,023. The sum of first page and page count may not fit a word, so it is not made.
 pub fn is_span(first: u32, count: u32) -> bool

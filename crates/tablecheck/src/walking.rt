@@ -3,7 +3,7 @@ ghost use mathlib.Core.Path.{_≡_};
 ghost use mathlib.Core.Bool.{true, false};
 ghost use Prim.Native.Nat.{_+_, _≤_, _<_};
 ghost use lib.ListN.{length};
-ghost use Rattle.words.specs.Sizes.{pagesInSpace};
+ghost use Rattle.runs.specs.PageWords.{pagesInSpace};
 ghost use Rattle.words.specs.Counts.{count, one-if};
 ghost use Rattle.words.specs.Searches.{allFrom};
 ghost use Rattle.blocks.specs.FrameWords.{frameBufferWords, largestPool};
@@ -27,8 +27,8 @@ use ranges::walk::over;
 use runs::PAGE_WORDS;
 use runs::Page;
 use runs::RANGE_WORDS;
-use words::PAGES;
-use words::SPACES;
+use runs::PAGES;
+use runs::SPACES;
 use words::scans::counts_beside;
 
 // What a walk finds: whether the words are sound, and where they are, how many pages are mapped.

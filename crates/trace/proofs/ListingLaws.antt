@@ -18,10 +18,10 @@ use Rattle.trace.specs.declared.Turn.{Turn}
 use Rattle.recordcalls.specs.declared.TwoUnits.{TwoUnits}
 use Rattle.records.specs.Input.{waiting, standing, nextOf, behind}
 use Rattle.records.specs.Lines.{written, line}
-use Rattle.recordcalls.specs.Steps.{Taken}
+use Rattle.recordcalls.specs.Steps.{RecordTaken}
 use Rattle.records.proofs.InputLaws.{within, waits-behind, whole-stands, same-standing, same-next}
 use Rattle.trace.specs.Listing.{Came, ended, cut, taken, last, Listed, goes-on}
-use Rattle.trace.specs.Turns.{Stepped, Ready, stopped, shownOf, wantsUnit}
+use Rattle.trace.specs.Turns.{Turned, Ready, stopped, shownOf, wantsUnit}
 
 -- what comes next, by its case
 module _ (T : Tables) (p : TwoUnits) (next : Next) where
@@ -33,7 +33,7 @@ module _ (T : Tables) (p : TwoUnits) (next : Next) where
   unfolding shownOf stopped
   came-cut t e f number = rw (e, f) cut
 
-  pub came-taken : (m : Meaning) (k : ℕ) (o : Outcome) (u : TwoUnits) (T′ : Tables) → next ≡ Whole m → Taken T p m (record { kind = k; outcome = o; units = u }) T′ → (number : ℕ) → Came T p number next (shownOf number (record { shows = true; kind = k; outcome = o; goes = true })) T′ u true
+  pub came-taken : (m : Meaning) (k : ℕ) (o : Outcome) (u : TwoUnits) (T′ : Tables) → next ≡ Whole m → RecordTaken T p m (record { kind = k; outcome = o; units = u }) T′ → (number : ℕ) → Came T p number next (shownOf number (record { shows = true; kind = k; outcome = o; goes = true })) T′ u true
   unfolding shownOf
   came-taken m k o u T′ e h number = rw e (taken h)
 
@@ -54,7 +54,7 @@ nothing-written at out = sym (rw (add-zero at, take-append-drop at out))
 
 -- a turn on the bytes that wait
 module _ (T T′ : Tables) (p p′ : TwoUnits) (next : Next) (s s′ : State) (t : Turn) (buffer lines lines′ : List ℕ) where
-  pub stepped : Ready s buffer lines → next ≡ nextOf (waiting (s .window) buffer) → ((number : ℕ) → Came T p number next (shownOf number t) T′ p′ (t .goes)) → lines′ ≡ written (s .held) (shownOf (s .number) t) lines → s′ ≡ record { number = s .number + 1; window = behind (s .window) buffer; held = s .held + length (shownOf (s .number) t); goes = t .goes } → Stepped T p s buffer lines T′ p′ s′ lines′
+  pub stepped : Ready s buffer lines → next ≡ nextOf (waiting (s .window) buffer) → ((number : ℕ) → Came T p number next (shownOf number t) T′ p′ (t .goes)) → lines′ ≡ written (s .held) (shownOf (s .number) t) lines → s′ ≡ record { number = s .number + 1; window = behind (s .window) buffer; held = s .held + length (shownOf (s .number) t); goes = t .goes } → Turned T p s buffer lines T′ p′ s′ lines′
   stepped ready e came put is =
       record {
         shown = shownOf (s .number) t;

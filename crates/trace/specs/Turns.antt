@@ -12,12 +12,12 @@ use Rattle.trace.specs.declared.State.{State}
 use Rattle.trace.specs.declared.Turn.{Turn}
 use Rattle.recordcalls.specs.declared.TwoUnits.{TwoUnits}
 use Rattle.records.specs.Input.{waiting, standing, nextOf, behind}
-use Rattle.records.specs.Lines.{written, line}
+use Rattle.records.specs.Lines.{written, longestLine, line}
 use Rattle.recordcalls.specs.Steps.{needsUnit}
 use Rattle.trace.specs.Listing.{Came, last}
 
 -- what the bytes that wait show is put behind the held lines, the number rises by one and the window moves behind the record, so that the bytes behind it wait
-pub record Stepped (T : Tables) (p : TwoUnits) (s : State) (buffer lines : List ℕ) (T′ : Tables) (p′ : TwoUnits) (s′ : State) (lines′ : List ℕ) : Type 0 where
+pub record Turned (T : Tables) (p : TwoUnits) (s : State) (buffer lines : List ℕ) (T′ : Tables) (p′ : TwoUnits) (s′ : State) (lines′ : List ℕ) : Type 0 where
   pub shown : List ℕ
   pub came : Came T p (s .number) (nextOf (waiting (s .window) buffer)) shown T′ p′ (s′ .goes)
   pub put : lines′ ≡ written (s .held) shown lines
@@ -32,10 +32,10 @@ pub record Lies (s : State) (buffer lines : List ℕ) : Type 0 where
   pub within : s .window .to ≤ length buffer
   pub held : s .held ≤ length lines
 
--- and there is room for a line, which has at most 105 bytes
+-- and there is room for a line, which has at most `longestLine` bytes
 pub record Ready (s : State) (buffer lines : List ℕ) : Type 0 where
   pub lies : Lies s buffer lines
-  pub room : s .held + 105 ≤ length lines
+  pub room : s .held + longestLine ≤ length lines
   pub below : s .number < last
 
 -- the turn that stops, at the end with no line and at a cut with one

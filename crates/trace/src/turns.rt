@@ -8,8 +8,9 @@ ghost use Rattle.recordcalls.specs.declared.TwoUnits.{TwoUnits};
 ghost use Rattle.records.specs.Input.{waiting, nextOf, behind};
 ghost use Rattle.records.specs.Lines.{written};
 ghost use Rattle.recordcalls.specs.Steps.{freshUnits};
+ghost use Rattle.records.specs.Lines.{longestLine};
 ghost use Rattle.trace.specs.Listing.{Came};
-ghost use Rattle.trace.specs.Turns.{Stepped, Lies, Ready, stopped, shownOf, wantsUnit};
+ghost use Rattle.trace.specs.Turns.{Turned, Lies, Ready, stopped, shownOf, wantsUnit};
 use crate::State;
 use crate::Turn;
 use recordcalls::TwoUnits;
@@ -143,7 +144,7 @@ fn answer_beside(
 
 // Puts the line of a turn, if it shows one, behind the held ones; answers how many bytes are held then.
 fn show(number: u64, t: Turn, lines: &mut [u8], held: usize) -> usize
-    requires { ⌜ held + 105 ≤ length (now lines) ⌝ }
+    requires { ⌜ held + longestLine ≤ length (now lines) ⌝ }
     ensures { λ r. ⌜ now (lines .exit) ≡ written held (shownOf number t) (now (lines .entry)) ⌝ }
     ensures { λ r. ⌜ r ≡ held + length (shownOf number t) ⌝ }
     ensures { λ r. ⌜ r ≤ length (now (lines .entry)) ⌝ }
@@ -186,7 +187,7 @@ pub fn step_on(
 ) -> SteppedOn
     requires { ⌜ Ready s (now buffer) (now lines) ⌝ }
     requires { ⌜ next ≡ nextOf (waiting (s .window) (now buffer)) ⌝ }
-    ensures { λ r. ⌜ Stepped (tables (now (control .entry)) (now (frames .entry)) (now (pages .entry)) (now (ranges .entry))) p s (now (buffer .entry)) (now (lines .entry)) (tables (now (control .exit)) (now (frames .exit)) (now (pages .exit)) (now (ranges .exit))) (r .units) (r .state) (now (lines .exit)) ⌝ }
+    ensures { λ r. ⌜ Turned (tables (now (control .entry)) (now (frames .entry)) (now (pages .entry)) (now (ranges .entry))) p s (now (buffer .entry)) (now (lines .entry)) (tables (now (control .exit)) (now (frames .exit)) (now (pages .exit)) (now (ranges .exit))) (r .units) (r .state) (now (lines .exit)) ⌝ }
     ensures { λ r. ⌜ Lies (r .state) (now (buffer .entry)) (now (lines .entry)) ⌝ }
 {
     let a = answer(next, p, control, frames, pages, ranges);
@@ -212,7 +213,7 @@ pub fn step_beside(
     requires { ⌜ Ready s (now buffer) (now lines) ⌝ }
     requires { ⌜ next ≡ nextOf (waiting (s .window) (now buffer)) ⌝ }
     requires { ⌜ wantsUnit next ≡ false ⌝ }
-    ensures { λ r. ⌜ ((p : TwoUnits) → Stepped (tables (now (control .entry)) (now (frames .entry)) (now (pages .entry)) (now (ranges .entry))) p s (now (buffer .entry)) (now (lines .entry)) (tables (now (control .exit)) (now (frames .exit)) (now (pages .exit)) (now (ranges .exit))) (cond (r .renews) freshUnits p) (r .state) (now (lines .exit))) ⌝ }
+    ensures { λ r. ⌜ ((p : TwoUnits) → Turned (tables (now (control .entry)) (now (frames .entry)) (now (pages .entry)) (now (ranges .entry))) p s (now (buffer .entry)) (now (lines .entry)) (tables (now (control .exit)) (now (frames .exit)) (now (pages .exit)) (now (ranges .exit))) (cond (r .renews) freshUnits p) (r .state) (now (lines .exit))) ⌝ }
     ensures { λ r. ⌜ Lies (r .state) (now (buffer .entry)) (now (lines .entry)) ⌝ }
 {
     let a = answer_beside(next, control, frames, pages, ranges);

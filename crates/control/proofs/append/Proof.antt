@@ -13,8 +13,8 @@ removal-count-requires c κs = search needs
 next-number-requires : tie.Need-next-number-requires
 next-number-requires c κs = λ e. c .before .before .before .pre .1 (sym (c .removal-count .ensures) ∙ e)
 
-place-of-requires : tie.Need-place-of-requires
-place-of-requires c κs = omega arith
+word-of-place-requires : tie.Need-word-of-place-requires
+word-of-place-requires c κs = omega arith
 
 slice-write-control : tie.Need-slice-write-control
 slice-write-control c = search needs
@@ -47,7 +47,7 @@ same-length : tie.Need-same-length
 same-length c = search needs
 
 returns : tie.Need-returns
-returns c = append-is _ _ _ _ _ _ (c .before .next-number .ensures ∙ ap (λ (x : ℕ). x + 1) (c .before .before .removal-count .ensures)) (c .place-of .ensures .0)
+returns c = append-is _ _ _ _ _ _ (c .before .next-number .ensures ∙ ap (λ (x : ℕ). x + 1) (c .before .before .removal-count .ensures)) (c .word-of-place .ensures .0)
 
 pub append-spec : {M : Type 1} → statement M
 append-spec =
@@ -55,7 +55,7 @@ append-spec =
     (tie.spec
     removal-count-requires
     next-number-requires
-    place-of-requires
+    word-of-place-requires
     slice-write-control
     mul-control
     slice-write-control-2

@@ -4,7 +4,7 @@ use Rattle.control.proofs.close_space.Tie as tie
 use mathlib.Core.Path.{refl}
 use Prim.Native.Nat.{_-_}
 use native.Mathlib.Omega.{arith}
-use Rattle.control.specs.Control.{withMask, closedMask}
+use Rattle.control.specs.Control.{withMask, withClosed}
 use Rattle.control.proofs.MaskLaws.{bit-below}
 
 open-mask-requires : tie.Need-open-mask-requires
@@ -23,7 +23,7 @@ same-length : tie.Need-same-length
 same-length c = search needs
 
 returns : tie.Need-returns
-unfolding closedMask withMask
+unfolding withClosed withMask
 returns c = rw (c .before .open-mask .ensures, c .bit-of .ensures .0) refl
 
 pub close-space-spec : {M : Type 1} → statement M

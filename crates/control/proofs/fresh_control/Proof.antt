@@ -1,7 +1,7 @@
 use borrow.Author.Needs.{needs}
 use Rattle.words.proofs.WriteLaws.{fill-none, fill-more}
 use Rattle.words.specs.Writes.{Filled}
-use Rattle.control.specs.Control.{controlWords}
+use Rattle.control.specs.Control.{controlBufferWords}
 use Rattle.control.proofs.fresh_control.Statement.{statement}
 use Rattle.control.proofs.fresh_control.Tie as tie
 use mathlib.Core.Path.{_≡_, refl, _∙_}
@@ -11,10 +11,10 @@ use lib.ListN.{length, length-set}
 use Rattle.control.proofs.ControlLaws.{fresh-is}
 
 abbrev Inv-loop : tie.InvT-loop
-Inv-loop control₀ pool i₀ control i = (i ≤ controlWords) × ((length control ≡ length control₀) × Filled control₀ 0 i 0 control)
+Inv-loop control₀ pool i₀ control i = (i ≤ controlBufferWords) × ((length control ≡ length control₀) × Filled control₀ 0 i 0 control)
 
 abbrev μ-loop : tie.MeasureT-loop
-μ-loop control₀ pool i₀ control i = controlWords - i
+μ-loop control₀ pool i₀ control i = controlBufferWords - i
 
 loop-holds : tie.Need-loop-holds Inv-loop μ-loop
 loop-holds c = (omega arith, (refl, fill-none _ _ _))

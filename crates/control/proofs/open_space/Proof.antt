@@ -3,7 +3,7 @@ use Rattle.control.proofs.open_space.Statement.{statement}
 use Rattle.control.proofs.open_space.Tie as tie
 use mathlib.Core.Path.{refl}
 use Prim.Native.Nat.{_-_}
-use Rattle.control.specs.Control.{withMask, openedMask}
+use Rattle.control.specs.Control.{withMask, withOpened}
 
 open-mask-requires : tie.Need-open-mask-requires
 open-mask-requires c κs = search needs
@@ -21,7 +21,7 @@ same-length : tie.Need-same-length
 same-length c = search needs
 
 returns : tie.Need-returns
-unfolding openedMask withMask
+unfolding withOpened withMask
 returns c = rw (c .before .open-mask .ensures, c .bit-of .ensures .0) refl
 
 pub open-space-spec : {M : Type 1} → statement M

@@ -5,8 +5,8 @@ use mathlib.Core.Path.{refl}
 use Prim.Native.Nat.{_-_}
 use Rattle.control.specs.Control.{recordCount}
 
-place-of-requires : tie.Need-place-of-requires
-place-of-requires c κs = search needs
+word-of-place-requires : tie.Need-word-of-place-requires
+word-of-place-requires c κs = search needs
 
 add-result : tie.Need-add-result
 add-result c = search needs
@@ -19,8 +19,8 @@ shared-slice-read-result c = search needs
 
 returns : tie.Need-returns
 unfolding recordCount
-returns c = rw (← (c .before .place-of .ensures .0)) refl
+returns c = rw (← (c .before .word-of-place .ensures .0)) refl
 
 pub record-count-spec : {M : Type 1} → statement M
 record-count-spec =
-    tie.close (tie.spec place-of-requires add-result mul-result shared-slice-read-result returns)
+    tie.close (tie.spec word-of-place-requires add-result mul-result shared-slice-read-result returns)

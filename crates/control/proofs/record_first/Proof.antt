@@ -5,8 +5,8 @@ use mathlib.Core.Path.{refl}
 use Prim.Native.Nat.{_-_}
 use Rattle.control.specs.Control.{recordFirst}
 
-place-of-requires : tie.Need-place-of-requires
-place-of-requires c κs = search needs
+word-of-place-requires : tie.Need-word-of-place-requires
+word-of-place-requires c κs = search needs
 
 add-t4 : tie.Need-add-t4
 add-t4 c = search needs
@@ -19,8 +19,8 @@ shared-slice-read-t7 c = search needs
 
 returns : tie.Need-returns
 unfolding recordFirst
-returns c = rw (← (c .before .place-of .ensures .0)) refl
+returns c = rw (← (c .before .word-of-place .ensures .0)) refl
 
 pub record-first-spec : {M : Type 1} → statement M
 record-first-spec =
-    tie.close (tie.spec place-of-requires add-t4 mul-t5 shared-slice-read-t7 returns)
+    tie.close (tie.spec word-of-place-requires add-t4 mul-t5 shared-slice-read-t7 returns)

@@ -5,8 +5,8 @@ use mathlib.Core.Path.{refl}
 use Prim.Native.Nat.{_-_}
 use Rattle.control.specs.Control.{recordSpace}
 
-place-of-requires : tie.Need-place-of-requires
-place-of-requires c κs = search needs
+word-of-place-requires : tie.Need-word-of-place-requires
+word-of-place-requires c κs = search needs
 
 mul-result : tie.Need-mul-result
 mul-result c = search needs
@@ -16,8 +16,8 @@ shared-slice-read-result c = search needs
 
 returns : tie.Need-returns
 unfolding recordSpace
-returns c = rw (← (c .before .place-of .ensures .0)) refl
+returns c = rw (← (c .before .word-of-place .ensures .0)) refl
 
 pub record-space-spec : {M : Type 1} → statement M
 record-space-spec =
-    tie.close (tie.spec place-of-requires mul-result shared-slice-read-result returns)
+    tie.close (tie.spec word-of-place-requires mul-result shared-slice-read-result returns)

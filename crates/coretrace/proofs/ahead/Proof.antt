@@ -4,6 +4,7 @@ use Prim.Native.Nat.{_+_, _≤_}
 use native.Mathlib.Omega.{arith}
 use lib.ListN.{length}
 use Rattle.coretrace.specs.Runs.{keeps}
+use Rattle.records.specs.Lines.{longestLine}
 use Rattle.coretrace.proofs.RunLaws.{has-room}
 use borrow.Author.Needs.{needs}
 use Rattle.coretrace.proofs.ahead.Statement.{statement}
@@ -36,7 +37,7 @@ returns c =
     let a = c .before .before .before .before .before .before .before .before .before .before .args in
     let f = c .before .before .fill .ensures in
     let e : c .before .before .before .before .before .settle .result ≡ cond (keeps (a .s) (a .buffer .now) (a .lines .now)) (a .s .held) 0 = c .before .before .before .before .before .settle .ensures ∙ ap (λ (k : Bool). cond k (a .s .held) 0) (c .before .before .before .before .before .before .keeps .ensures) in
-    let room : cond (keeps (a .s) (a .buffer .now) (a .lines .now)) (a .s .held) 0 + 105 ≤ length (a .lines .now) = has-room _ _ _ (omega arith) (omega arith) in (
+    let room : cond (keeps (a .s) (a .buffer .now) (a .lines .now)) (a .s .held) 0 + longestLine ≤ length (a .lines .now) = has-room _ _ _ (omega arith) (omega arith) in (
       record { lies = record { ordered = f .0; within = omega (arith, f .1 .0); held = omega arith }; room = omega arith; below = omega arith },
       (refl, (e, f .1 .1 .0)),
     )

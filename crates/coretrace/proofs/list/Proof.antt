@@ -1,4 +1,4 @@
-use Rattle.trace.specs.Listing.{zeroed}
+use Rattle.layout.specs.Tables.{zeroed}
 use Rattle.coretrace.proofs.RunLaws.{with-header}
 use borrow.Author.Needs.{needs}
 use Rattle.coretrace.proofs.list.Statement.{statement}

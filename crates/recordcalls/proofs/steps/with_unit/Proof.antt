@@ -1,5 +1,5 @@
 use borrow.Author.Tests.{ne-eqb}
-use Rattle.recordcalls.specs.Steps.{withUnit}
+use Rattle.recordcalls.specs.Steps.{withUnitAt}
 use Rattle.recordcalls.proofs.steps.with_unit.Statement.{statement}
 use Rattle.recordcalls.proofs.steps.with_unit.Tie as tie
 use Rattle.recordcalls.proofs.steps.with_unit.Reads as reads
@@ -7,12 +7,12 @@ use Rattle.recordcalls.proofs.steps.with_unit.Lts as lts
 
 -- src/steps.rt:44:9
 returns : tie.Need-returns
-unfolding withUnit
+unfolding withUnitAt
 returns c = rw (c .if1 .taken)
 
 -- src/steps.rt:38:1
 returns-2 : tie.Need-returns-2
-unfolding withUnit
+unfolding withUnitAt
 returns-2 c = rw (ne-eqb _ _ (c .if1 .left))
 
 pub with-unit-spec : {M : Type 1} → statement M
