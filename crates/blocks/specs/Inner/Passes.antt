@@ -1,6 +1,6 @@
 -- What the inner functions of the pool promise, and nothing else does: each a step of a pass over the buffer, said of single words.
 use mathlib.Core.Path.{_≡_}
-use mathlib.Core.Bool.{Bool, true, false}
+use mathlib.Core.Bool.{Bool, true, false, not}
 use mathlib.Core.List.{List}
 use mathlib.Core.Option.{Option, none, some}
 use Prim.Native.Nat.{ℕ, _+_, _-_, _^_, _<_, _≤_}
@@ -35,6 +35,10 @@ pub record Checked (F : ℕ) (b : List ℕ) (f r : ℕ) : Type 0 where
   pub good : (r ≡ 0 → ⊥) → SettledTo F b f r b
   pub free : (g : ℕ) → f ≤ g → g < r → ownedIn b g ≡ false
   pub bad : r ≡ 0 → (g : ℕ) × (g < F) × (getD b g 0 ≡ frameWord F (ownersOf b) g → ⊥)
+
+-- whether a frame is held, or free, as is sought
+unfoldable pub sought : Bool → Bool → Bool
+sought held free = elim held [ true ↦ not free | false ↦ free ]
 
 -- the frames from s up to r, r left out and at most e, are held
 pub record HeldTo (b : List ℕ) (s e r : ℕ) : Type 0 where
