@@ -8,6 +8,7 @@ use lib.Dec.{leb, ltb, eqb}
 use lib.ListN.{getD}
 use Rattle.words.specs.Counts.{one-if}
 use Rattle.words.specs.Searches.{anyFrom, largest}
+use Rattle.words.specs.Writes.{ChangedTo}
 use Rattle.blocks.specs.declared.Block.{Block}
 use Rattle.blocks.specs.declared.Bound.{Bound}
 use Rattle.blocks.specs.Blocks.{block, inBlock}
@@ -93,9 +94,8 @@ handed owner i s o g = elim (inBlock i s g) [ true ↦ o + (g - s) | false ↦ o
 -- Freeing
 
 -- the words below m are without the n owners from o on, and every other is as it was
-pub record ClearedTo (b : List ℕ) (o n m : ℕ) (b′ : List ℕ) : Type 0 where
-  pub below : (g : ℕ) → g < m → getD b′ g 0 ≡ cleared o n (getD b g 0)
-  pub above : (g : ℕ) → m ≤ g → getD b′ g 0 ≡ getD b g 0
+abbrev pub ClearedTo : List ℕ → ℕ → ℕ → ℕ → List ℕ → Type 0
+ClearedTo b o n m b′ = ChangedTo (λ g w. cleared o n w) b 0 m b′
 
 -- the mark of owner w is 1 if it is one of the n owners from o on, and the other marks are as they were
 pub record MarkedOne (o n w : ℕ) (m m′ : List ℕ) : Type 0 where
