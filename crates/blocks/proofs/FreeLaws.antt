@@ -98,23 +98,11 @@ freed-zero owner o n g pos z = ap (cleared o n) z ∙ sym (clear-out o n 0 (λ l
 
 -- the pass that clears
 
-pub cleared-none : (b : List ℕ) (o n : ℕ) → ClearedTo b o n 0 b
-cleared-none b o n = record { below = λ g h. absurd (omega arith); above = λ g h. refl }
-
-pub cleared-more : (b : List ℕ) (o n m w : ℕ) (b′ : List ℕ) → m < length b′ → w ≡ cleared o n (getD b′ m 0) → ClearedTo b o n m b′ → ClearedTo b o n (m + 1) (set b′ m w)
-cleared-more b o n m w b′ h we c =
-    record {
-      below = λ g lt. by-dec (ℕ-discrete g m)
-          (λ x. rw x (getD-set-same b′ m w 0 h ∙ we ∙ ap (cleared o n) (c .above m (omega arith))))
-          (λ ne. getD-set-other b′ m g w 0 ne ∙ c .below g (omega arith));
-      above = λ g le. getD-set-other b′ m g w 0 (λ x. omega arith) ∙ c .above g (omega arith);
-    }
-
 pub released : (F : ℕ) (b : List ℕ) (o n : ℕ) (b1 b2 : List ℕ) → 1 ≤ o → o + n ≤ 4097 → ClearedTo b o n F b1 → b2 ≡ frameWords F (ownersOf b1)
     → b2 ≡ frameWords F (freed (ownersOf b) o n)
 unfolding freed ownersOf
 released F b o n b1 b2 pos room c e =
-    e ∙ words-ext F (ownersOf b1) (freed (ownersOf b) o n) (λ g h. ap ownerOf (c .below g h) ∙ clear-owner o n (getD b g 0) pos room)
+    e ∙ words-ext F (ownersOf b1) (freed (ownersOf b) o n) (λ g h. ap ownerOf (c .inside g zero-le h) ∙ clear-owner o n (getD b g 0) pos room)
 
 -- who owns what after frames are given
 

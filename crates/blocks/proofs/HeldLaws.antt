@@ -1,20 +1,30 @@
 -- Held frames, passed over a stretch at a time and counted.
 use mathlib.Core.Path.{_≡_, refl}
-use mathlib.Core.Bool.{true, false, not}
+use mathlib.Core.Bool.{Bool, true, false}
 use mathlib.Core.List.{List}
 use Prim.Native.Nat.{ℕ, _+_, _-_, _<_, _≤_}
 use native.Mathlib.Decide.{decLt}
 use native.Mathlib.Omega.{arith}
 use lib.ListN.{getD}
 use borrow.Author.Tests.{not-true}
-use Rattle.words.specs.Searches.{allFrom}
-use Rattle.words.proofs.SearchLaws.{allFrom-at}
-use Rattle.words.specs.Counts.{count}
+use Rattle.words.specs.Counts.{count, one-if}
+use Rattle.words.specs.Writes.{PassTo}
 use Rattle.words.proofs.Cases.{by-test, by-dec, true-false}
-use Rattle.words.proofs.CountLaws.{count-split, none-pass, all-pass}
+use Rattle.words.proofs.CountLaws.{one-if-not, count-split, none-pass, all-pass}
 use Rattle.blocks.specs.FrameWords.{isOwner, freeIn, ownedIn}
-use Rattle.blocks.specs.Inner.Passes.{Checked, HeldTo}
+use Rattle.blocks.specs.Inner.Passes.{sought, Checked, HeldTo}
 use Rattle.blocks.proofs.WordLaws.{owner-false, is-free}
+
+-- what is sought, counted
+
+module _ (held free : Bool) (r : ℕ) where
+  pub sought-held : held ≡ true → r ≡ one-if free → 1 - r ≡ one-if (sought held free)
+  unfolding sought
+  sought-held e q = rw e (omega (arith, q, one-if-not free))
+
+  pub sought-free : held ≡ false → r ≡ one-if free → r ≡ one-if (sought held free)
+  unfolding sought
+  sought-free e q = rw e q
 
 -- a stretch
 
@@ -25,8 +35,9 @@ module _ (b : List ℕ) (s e : ℕ) where
   pub held-one : s < e → freeIn b s ≡ false → HeldTo b s e (s + 1)
   held-one h f = record { from = omega arith; to = omega arith; held = λ g lo hi. let q : g ≡ s = omega arith in rw q f }
 
-  pub held-chunk : (n : ℕ) → s + n ≤ e → allFrom n s (λ g. not (freeIn b g)) ≡ true → HeldTo b s e (s + n)
-  held-chunk n h t = record { from = omega arith; to = h; held = λ g lo hi. not-true _ (allFrom-at n s (λ k. not (freeIn b k)) t g lo hi) }
+  pub held-pass : (r : ℕ) → PassTo (λ g. sought true (freeIn b g)) s e r → HeldTo b s e r
+  unfolding sought
+  held-pass r x = record { from = x .from; to = x .to; held = λ g lo hi. not-true _ (x .pass g lo hi) }
 
   -- the frames up to a nearer end
   pub held-near : (d r : ℕ) → d ≤ e → HeldTo b s d r → HeldTo b s e r

@@ -1,15 +1,15 @@
 // Reading and writing runs of words of a lent buffer.
 ghost use mathlib.Core.Path.{_≡_};
-ghost use mathlib.Core.Bool.{true, not};
+ghost use mathlib.Core.Bool.{true};
 ghost use Prim.Native.Nat.{_+_, _-_, _^_, _≤_, _<_};
 ghost use lib.Dec.{eqb};
 ghost use lib.ListN.{length};
 ghost use Rattle.words.specs.Counts.{one-if};
 ghost use Rattle.words.specs.Searches.{allFrom};
-ghost use Rattle.words.specs.Writes.{Filled, CountedUp};
+ghost use Rattle.words.specs.Writes.{PassTo, Filled, CountedUp};
 ghost use Rattle.blocks.specs.FrameWords.{ownerOf, freeIn};
 ghost use Rattle.blocks.specs.Inner.Around.{startOf};
-ghost use Rattle.blocks.specs.Inner.Passes.{HeldTo};
+ghost use Rattle.blocks.specs.Inner.Passes.{sought, HeldTo};
 use blocks::Frame;
 
 // The owner that a frame word names, 0 for a free frame.
@@ -33,36 +33,27 @@ pub fn one_if_free(w: u32) -> u32
     0
 }
 
-fn one_if_held(w: u32) -> u32
-    ensures { λ r. ⌜ r ≡ one-if (not (eqb (ownerOf w) 0)) ⌝ }
+// 1 where a frame with this word is held, or free, as is sought.
+fn one_if_sought(w: u32, held: bool) -> u32
+    ensures { λ r. ⌜ r ≡ one-if (sought held (eqb (ownerOf w) 0)) ⌝ }
     ensures { λ r. ⌜ r ≤ 1 ⌝ }
 {
-    1 - one_if_free(w)
-}
-
-// Whether the sixteen frames from `at` on are free. They are counted without a branch, so that the compiler reads several words at a time.
-fn chunk_free(frames: &[u32], at: usize) -> bool
-    requires { ⌜ at + 16 ≤ length (now frames) ⌝ }
-    ensures { λ r. ⌜ r ≡ allFrom 16 at (freeIn (now (frames .entry))) ⌝ }
-{
-    let mut n: u32 = 0;
-    let mut j: usize = 0;
-    while j < 16 {
-        n += one_if_free(frames[at + j]);
-        j += 1;
+    let free = one_if_free(w);
+    if held {
+        return 1 - free;
     }
-    n == 16
+    free
 }
 
-// Whether the sixteen frames from `at` on are held.
-fn chunk_held(frames: &[u32], at: usize) -> bool
+// Whether the sixteen frames from `at` on are all held, or all free, as is sought. They are counted without a branch, so that the compiler reads several words at a time.
+fn chunk_all(frames: &[u32], at: usize, held: bool) -> bool
     requires { ⌜ at + 16 ≤ length (now frames) ⌝ }
-    ensures { λ r. ⌜ r ≡ allFrom 16 at (λ g. not (freeIn (now (frames .entry)) g)) ⌝ }
+    ensures { λ r. ⌜ r ≡ allFrom 16 at (λ g. sought held (freeIn (now (frames .entry)) g)) ⌝ }
 {
     let mut n: u32 = 0;
     let mut j: usize = 0;
     while j < 16 {
-        n += one_if_held(frames[at + j]);
+        n += one_if_sought(frames[at + j], held);
         j += 1;
     }
     n == 16
@@ -85,6 +76,22 @@ pub fn start_of(f: Frame, k: u32) -> Frame
     Frame((g >> k) << k)
 }
 
+// A place up to which the frames from `from` on are held, or free, as is sought, chunk after chunk.
+fn chunks_to(frames: &[u32], from: usize, end: usize, held: bool) -> usize
+    requires { ⌜ end ≤ length (now frames) ⌝ }
+    requires { ⌜ from ≤ end ⌝ }
+    ensures { λ r. ⌜ PassTo (λ g. sought held (freeIn (now (frames .entry)) g)) from end r ⌝ }
+{
+    let mut g = from;
+    while 16 <= end - g {
+        if !chunk_all(frames, g, held) {
+            return g;
+        }
+        g += 16;
+    }
+    g
+}
+
 // Whether the frames from `from` up to `end` are free.
 pub fn all_free(frames: &[u32], from: usize, end: usize) -> bool
     requires { ⌜ end ≤ length (now frames) ⌝ }
@@ -92,11 +99,8 @@ pub fn all_free(frames: &[u32], from: usize, end: usize) -> bool
     ensures { λ r. ⌜ r ≡ allFrom (end - from) from (freeIn (now (frames .entry))) ⌝ }
 {
     let mut g = from;
-    while 16 <= end - g {
-        if !chunk_free(frames, g) {
-            return false;
-        }
-        g += 16;
+    if 16 <= end - from {
+        g = chunks_to(frames, from, end, false);
     }
     while g < end {
         if owner_of(frames[g]) != 0 {
@@ -105,22 +109,6 @@ pub fn all_free(frames: &[u32], from: usize, end: usize) -> bool
         g += 1;
     }
     true
-}
-
-// A place up to which the frames from `from` on are held, chunk after chunk.
-fn held_chunks(frames: &[u32], from: usize, end: usize) -> usize
-    requires { ⌜ end ≤ length (now frames) ⌝ }
-    requires { ⌜ from ≤ end ⌝ }
-    ensures { λ r. ⌜ HeldTo (now (frames .entry)) from end r ⌝ }
-{
-    let mut g = from;
-    while 16 <= end - g {
-        if !chunk_held(frames, g) {
-            return g;
-        }
-        g += 16;
-    }
-    g
 }
 
 // The first free frame from `from` on, and before `end`, or else `end`, frame after frame.
@@ -154,7 +142,7 @@ pub fn held_to(frames: &[u32], from: usize, end: usize) -> usize
     if near < from + 4 {
         return near;
     }
-    let far = held_chunks(frames, near, end);
+    let far = chunks_to(frames, near, end, true);
     held_words(frames, far, end)
 }
 

@@ -14,6 +14,7 @@ use borrow.Author.Tests.{le-leb, lt-leb}
 use Rattle.words.specs.Counts.{one-if}
 use Rattle.words.proofs.Cases.{by-test, by-dec}
 use Rattle.words.proofs.CountLaws.{one-if-le}
+use Rattle.words.proofs.WriteLaws.{change-none, change-more}
 use Rattle.runs.specs.PageWords.{mapped, rangeBit}
 use Rattle.runs.specs.Walk.{joins, goesOn, runBefore, bitWord, withBits, ended, entryOf, rangeWords}
 use Rattle.runs.specs.Steps.{Empty, Onward, Along, nowhere, empty, onward, Marked, zeroFrom, markedPages, EndedRun}
@@ -23,17 +24,10 @@ use Rattle.runs.proofs.WalkLaws.{goes-zero, whole, bit-at, withBits-at,
 
 -- Marking, word by word
 pub mark-none : (bit : Bool) (xs : List ℕ) (a : ℕ) → Marked bit xs a 0 xs
-mark-none bit xs a = record { inside = λ q lo hi. absurd (omega arith); below = λ q h. refl; above = λ q h. refl }
+mark-none bit xs a = let z : a + 0 ≡ a = omega arith in rw z (change-none _ xs a)
 
 pub mark-more : (bit : Bool) (xs ys : List ℕ) (a k : ℕ) (x : ℕ) → a + k < length ys → Marked bit xs a k ys → x ≡ bitWord bit (getD ys (a + k) 0) → Marked bit xs a (k + 1) (set ys (a + k) x)
-mark-more bit xs ys a k x h m e = record {
-  inside = λ q lo hi.
-      by-dec (ℕ-discrete q (a + k))
-      (λ same. rw same (getD-set-same ys (a + k) x 0 h ∙ e ∙ ap (bitWord bit) (m .above (a + k) (omega arith))))
-      (λ other. getD-set-other ys (a + k) q x 0 other ∙ m .inside q lo (omega arith));
-  below = λ q lt. getD-set-other ys (a + k) q x 0 (λ s. omega arith) ∙ m .below q lt;
-  above = λ q le. getD-set-other ys (a + k) q x 0 (λ s. omega arith) ∙ m .above q (omega arith);
-}
+mark-more bit xs ys a k x h m e = let z : a + (k + 1) ≡ a + k + 1 = omega arith in rw z (change-more _ xs a (a + k) x ys (omega arith) h e m)
 
 -- Zeros, word by word
 pub zero-none : (xs : List ℕ) (at : ℕ) → at ≤ length xs → take at xs ≡ take at xs ++ replicate (at - at) 0

@@ -6,9 +6,9 @@ use Prim.Native.Nat.{ℕ, _+_, _-_, _≤_, _<_}
 use lib.Dec.{leb}
 use lib.ListN.{length, getD, take, replicate}
 use lib.Seq.{sets}
-use Rattle.runs.specs.PageWords.{pagesInSpace}
 use Rattle.words.specs.Tables.{part}
-use Rattle.runs.specs.PageWords.{rightsFactor, mapped, rangeBit, frameIn, isPageWord}
+use Rattle.words.specs.Writes.{ChangedTo}
+use Rattle.runs.specs.PageWords.{pagesInSpace, rightsFactor, mapped, rangeBit, frameIn, isPageWord}
 use Rattle.runs.specs.Runs.{smallestRange, wordsInTableEntry}
 use Rattle.runs.specs.Walk.{bitWord, entryOf, ended}
 
@@ -39,10 +39,8 @@ pub data Along (ws : List ℕ) (i w : ℕ) : ℕ → ℕ → Type 0 where
 -- Rebuilding
 
 -- the mapped ones of n pages from page a on have the range bit given, the unmapped ones the word 0, and every other is as it was
-pub record Marked (bit : Bool) (xs : List ℕ) (a n : ℕ) (ys : List ℕ) : Type 0 where
-  pub inside : (q : ℕ) → a ≤ q → q < a + n → getD ys q 0 ≡ bitWord bit (getD xs q 0)
-  pub below : (q : ℕ) → q < a → getD ys q 0 ≡ getD xs q 0
-  pub above : (q : ℕ) → a + n ≤ q → getD ys q 0 ≡ getD xs q 0
+abbrev pub Marked : Bool → List ℕ → ℕ → ℕ → List ℕ → Type 0
+Marked bit xs a n ys = ChangedTo (λ q w. bitWord bit w) xs a (a + n) ys
 
 -- the words xs with zeros from place `at` on
 unfoldable pub zeroFrom : List ℕ → ℕ → List ℕ

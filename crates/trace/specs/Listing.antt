@@ -1,7 +1,7 @@
 -- The listing of a list of input bytes. Document 01, Program coretrace.
 use mathlib.Core.Path.{_≡_}
 use mathlib.Core.Bool.{Bool, true, false}
-use mathlib.Core.List.{List, [], _∷_, _++_}
+use mathlib.Core.List.{List, [], _++_}
 use Prim.Native.Nat.{ℕ, _+_, _<_}
 use lib.ListN.{drop}
 use Rattle.words.specs.Rows.{refusal}

@@ -1,6 +1,6 @@
 -- What the inner functions of the pool promise, and nothing else does: each a step of a pass over the buffer, said of single words.
 use mathlib.Core.Path.{_≡_}
-use mathlib.Core.Bool.{Bool, true, false}
+use mathlib.Core.Bool.{Bool, true, false, not}
 use mathlib.Core.List.{List}
 use mathlib.Core.Option.{Option, none, some}
 use Prim.Native.Nat.{ℕ, _+_, _-_, _^_, _<_, _≤_}
@@ -8,6 +8,7 @@ use lib.Dec.{leb, ltb, eqb}
 use lib.ListN.{getD}
 use Rattle.words.specs.Counts.{one-if}
 use Rattle.words.specs.Searches.{anyFrom, largest}
+use Rattle.words.specs.Writes.{ChangedTo}
 use Rattle.blocks.specs.declared.Block.{Block}
 use Rattle.blocks.specs.declared.Bound.{Bound}
 use Rattle.blocks.specs.Blocks.{largestOrder, orders, block, inBlock}
@@ -35,6 +36,10 @@ pub record Checked (F : ℕ) (b : List ℕ) (f r : ℕ) : Type 0 where
   pub good : (r ≡ 0 → ⊥) → SettledTo F b f r b
   pub free : (g : ℕ) → f ≤ g → g < r → ownedIn b g ≡ false
   pub bad : r ≡ 0 → (g : ℕ) × (g < F) × (getD b g 0 ≡ frameWord F (ownersOf b) g → ⊥)
+
+-- whether a frame is held, or free, as is sought
+unfoldable pub sought : Bool → Bool → Bool
+sought held free = elim held [ true ↦ not free | false ↦ free ]
 
 -- the frames from s up to r, r left out and at most e, are held
 pub record HeldTo (b : List ℕ) (s e r : ℕ) : Type 0 where
@@ -89,9 +94,8 @@ handed owner i s o g = elim (inBlock i s g) [ true ↦ o + (g - s) | false ↦ o
 -- Freeing
 
 -- the words below m are without the n owners from o on, and every other is as it was
-pub record ClearedTo (b : List ℕ) (o n m : ℕ) (b′ : List ℕ) : Type 0 where
-  pub below : (g : ℕ) → g < m → getD b′ g 0 ≡ cleared o n (getD b g 0)
-  pub above : (g : ℕ) → m ≤ g → getD b′ g 0 ≡ getD b g 0
+abbrev pub ClearedTo : List ℕ → ℕ → ℕ → ℕ → List ℕ → Type 0
+ClearedTo b o n m b′ = ChangedTo (λ g w. cleared o n w) b 0 m b′
 
 -- the mark of owner w is 1 if it is one of the n owners from o on, and the other marks are as they were
 pub record MarkedOne (o n w : ℕ) (m m′ : List ℕ) : Type 0 where

@@ -1,5 +1,5 @@
 use borrow.Author.Needs.{needs}
-use Rattle.words.proofs.WriteLaws.{fill-none, fill-more}
+use Rattle.words.proofs.WriteLaws.{change-none, change-more}
 use Rattle.words.specs.Writes.{Filled}
 use Rattle.control.specs.Control.{controlBufferWords}
 use Rattle.control.proofs.fresh_control.Statement.{statement}
@@ -17,7 +17,7 @@ abbrev μ-loop : tie.MeasureT-loop
 μ-loop control₀ pool i₀ control i = controlBufferWords - i
 
 loop-holds : tie.Need-loop-holds Inv-loop μ-loop
-loop-holds c = (omega arith, (refl, fill-none _ _ _))
+loop-holds c = (omega arith, (refl, change-none _ _ _))
 
 mul-control : tie.Need-mul-control Inv-loop μ-loop
 mul-control c = search needs
@@ -32,7 +32,7 @@ loop-less : tie.Need-loop-less Inv-loop μ-loop
 loop-less c = search needs
 
 loop-again : tie.Need-loop-again Inv-loop μ-loop
-loop-again c = (omega arith, (simp length-set (omega arith), fill-more _ _ _ _ _ (omega arith) (omega arith) (c .before .loop .inv .1 .1)))
+loop-again c = (omega arith, (simp length-set (omega arith), change-more _ _ _ _ _ _ (omega arith) (omega arith) refl (c .before .loop .inv .1 .1)))
 
 slice-write-control-2 : tie.Need-slice-write-control-2 Inv-loop μ-loop
 slice-write-control-2 c = search needs

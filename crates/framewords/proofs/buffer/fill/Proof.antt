@@ -1,6 +1,6 @@
 use borrow.Author.Needs.{needs}
 use Rattle.words.specs.Writes.{Filled}
-use Rattle.words.proofs.WriteLaws.{fill-none, fill-more}
+use Rattle.words.proofs.WriteLaws.{change-none, change-more}
 use Rattle.framewords.proofs.buffer.fill.Statement.{statement}
 use Rattle.framewords.proofs.buffer.fill.Tie as tie
 use mathlib.Core.Path.{_≡_, refl}
@@ -16,7 +16,7 @@ abbrev μ-loop : tie.MeasureT-loop
 
 -- src/buffer.rt:67:5
 loop-holds : tie.Need-loop-holds Inv-loop μ-loop
-loop-holds c = (omega arith, (omega arith, (refl, fill-none _ _ _)))
+loop-holds c = (omega arith, (omega arith, (refl, change-none _ _ _)))
 
 -- src/buffer.rt:68:9
 mul-words : tie.Need-mul-words Inv-loop μ-loop
@@ -36,7 +36,7 @@ loop-less c = search needs
 
 -- src/buffer.rt:67:5
 loop-again : tie.Need-loop-again Inv-loop μ-loop
-loop-again c = (omega arith, (omega arith, (simp length-set (omega arith), fill-more _ _ _ _ _ (omega arith) (omega arith) (c .before .loop .inv .1 .1 .1))))
+loop-again c = (omega arith, (omega arith, (simp length-set (omega arith), change-more _ _ _ _ _ _ (omega arith) (omega arith) refl (c .before .loop .inv .1 .1 .1))))
 
 -- src/buffer.rt:61:1
 same-length : tie.Need-same-length Inv-loop μ-loop

@@ -1,11 +1,11 @@
 use native.Mathlib.Omega.{arith}
-use Rattle.blocks.proofs.HeldLaws.{held-near, held-more}
+use Rattle.blocks.proofs.HeldLaws.{held-pass, held-near, held-more}
 use borrow.Author.Needs.{needs}
 use Rattle.framewords.proofs.buffer.held_to.Statement.{statement}
 use Rattle.framewords.proofs.buffer.held_to.Tie as tie
 use Rattle.framewords.proofs.buffer.held_to.Reads as reads
 use Rattle.framewords.proofs.buffer.held_to.Lts as lts
-use Rattle.framewords.proofs.buffer.held_chunks.Reads as held-chunks-reads
+use Rattle.framewords.proofs.buffer.chunks_to.Reads as chunks-to-reads
 use Rattle.framewords.proofs.buffer.held_words.Reads as held-words-reads
 
 -- src/buffer.rt:139:8
@@ -37,8 +37,8 @@ returns-2 : tie.Need-returns-2
 returns-2 c = (held-near _ _ _ _ _ (omega arith) (c .before .held-words2 .ensures .0), λ ne. c .before .held-words2 .ensures .1 (λ e. omega arith))
 
 -- src/buffer.rt:146:9
-held-chunks-requires : tie.Need-held-chunks-requires
-held-chunks-requires c κs = search needs
+chunks-to-requires : tie.Need-chunks-to-requires
+chunks-to-requires c κs = search needs
 
 -- src/buffer.rt:147:5
 held-words-requires-3 : tie.Need-held-words-requires-3
@@ -46,7 +46,7 @@ held-words-requires-3 c κs = search needs
 
 -- src/buffer.rt:133:1
 returns-3 : tie.Need-returns-3
-returns-3 c = (held-more _ _ _ _ _ (held-near _ _ _ _ _ (omega arith) (c .before .before .before .held-words2 .ensures .0)) (held-more _ _ _ _ _ (c .before .held-chunks .ensures) (c .held-words3 .ensures .0)), c .held-words3 .ensures .1)
+returns-3 c = (held-more _ _ _ _ _ (held-near _ _ _ _ _ (omega arith) (c .before .before .before .held-words2 .ensures .0)) (held-more _ _ _ _ _ (held-pass _ _ _ _ (c .before .chunks-to .ensures)) (c .held-words3 .ensures .0)), c .held-words3 .ensures .1)
 
 pub held-to-spec : {M : Type 1} → statement M
 held-to-spec =
@@ -59,6 +59,6 @@ held-to-spec =
     held-words-requires-2
     add-if2
     returns-2
-    held-chunks-requires
+    chunks-to-requires
     held-words-requires-3
     returns-3)

@@ -2,11 +2,11 @@ use borrow.Author.Needs.{needs}
 use Rattle.merging.proofs.freeing.clear.Statement.{statement}
 use Rattle.merging.proofs.freeing.clear.Tie as tie
 use mathlib.Core.Path.{_≡_, refl}
-use Prim.Native.Nat.{_≤_, _-_}
+use Prim.Native.Nat.{_≤_, _-_, zero-le}
 use native.Mathlib.Omega.{arith}
 use lib.ListN.{length, length-set}
 use Rattle.blocks.specs.Inner.Passes.{ClearedTo}
-use Rattle.blocks.proofs.FreeLaws.{cleared-none, cleared-more}
+use Rattle.words.proofs.WriteLaws.{change-none, change-more}
 
 abbrev Inv-loop : tie.InvT-loop
 Inv-loop frames₀ pool owner n end g₀ frames g = (end ≡ pool) × ((g ≤ end) × ((length frames ≡ length frames₀) × ClearedTo frames₀ owner n g frames))
@@ -16,7 +16,7 @@ abbrev μ-loop : tie.MeasureT-loop
 
 -- src/freeing.rt:126:5
 loop-holds : tie.Need-loop-holds Inv-loop μ-loop
-loop-holds c = (refl, (omega arith, (refl, cleared-none _ _ _)))
+loop-holds c = (refl, (omega arith, (refl, change-none _ _ _)))
 
 -- src/freeing.rt:127:25
 mul-cleared : tie.Need-mul-cleared Inv-loop μ-loop
@@ -48,7 +48,7 @@ loop-less c = search needs
 
 -- src/freeing.rt:126:5
 loop-again : tie.Need-loop-again Inv-loop μ-loop
-loop-again c = (c .before .before .before .loop .inv .0, (omega arith, (simp length-set (omega arith), cleared-more _ _ _ _ _ _ (omega arith) (c .cleared .ensures) (c .before .before .before .loop .inv .1 .1 .1))))
+loop-again c = (c .before .before .before .loop .inv .0, (omega arith, (simp length-set (omega arith), change-more _ _ _ _ _ _ zero-le (omega arith) (c .cleared .ensures) (c .before .before .before .loop .inv .1 .1 .1))))
 
 -- src/freeing.rt:121:1
 same-length : tie.Need-same-length Inv-loop μ-loop
