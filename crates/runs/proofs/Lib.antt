@@ -1,5 +1,6 @@
 pub mod WordLaws
 pub mod OffsetLaws
+pub mod BaseLimitLaws
 pub mod WalkLaws
 pub mod RunsLaws
 pub mod StepLaws
