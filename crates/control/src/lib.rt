@@ -8,6 +8,7 @@ ghost use Rattle.control.specs.Control.{controlWords, logPlaces, allOpen
 use blocks::LARGEST_POOL;
 use words::LAST_SPACE;
 use words::PAGES;
+use words::writes::fill;
 
 const POOL: usize = 0;
 
@@ -230,10 +231,6 @@ pub fn fresh_control(control: &mut [u32], pool: u32)
     requires { ⌜ length (now control) ≡ controlWords ⌝ }
     ensures { λ _. ⌜ now (control .exit) ≡ freshControl pool ⌝ }
 {
-    let mut i = 0;
-    while i < WORDS {
-        control[i] = 0;
-        i += 1;
-    }
+    fill(control, 0, WORDS, 0);
     control[POOL] = pool;
 }
