@@ -5,7 +5,7 @@ use mathlib.Core.List.{List, [], _∷_}
 use mathlib.Core.Option.{Option, some}
 use Prim.Native.Nat.{ℕ, _+_, _-_, _^_, _<_, _≤_, zero-le}
 use native.Mathlib.Nat.{add-zero, zero-add}
-use native.Mathlib.Decide.{decLt, decLe}
+use native.Mathlib.Decide.{decLt}
 use native.Mathlib.Omega.{arith}
 use lib.ListN.{length, getD}
 use lib.Pow.{pow-pos}
@@ -24,7 +24,7 @@ use Rattle.blocks.proofs.WordLaws
 use Rattle.blocks.proofs.ChoiceLaws.{Good, takes-good, takes-all, Taking, taking, one, end, frame-first, frame-rest, takeBlocks-same}
 use Rattle.blocks.proofs.SearchedLaws.{nothing-known}
 use Rattle.blocks.proofs.AllocateLaws.{Rest, rest-of}
-use Rattle.blocks.proofs.FreeLaws.{cleared-in, cleared-out, given-at, given-other, allocated-owners, freed-again, nobody-holds}
+use Rattle.blocks.proofs.FreeLaws.{cleared-in, cleared-out, given-at, given-other, freed-again, nobody-holds}
 
 -- frames that a request of n pages takes
 
@@ -88,14 +88,6 @@ owner-low = WordLaws.owner-low
 pub owner-high : (w : ℕ) → 4096 < w → ownerOf w ≡ 0
 owner-high = WordLaws.owner-high
 
--- the owner of a held frame is its word
-pub owner-word : (b : List ℕ) (f : ℕ) → (ownersOf b f ≡ 0 → ⊥) → (getD b f 0 ≡ ownersOf b f) × (1 ≤ ownersOf b f) × (ownersOf b f ≤ 4096)
-unfolding ownersOf
-owner-word b f n =
-    by-dec (decLe (getD b f 0) 4096)
-    (λ le. let e = owner-low (getD b f 0) le in (sym e, omega arith, omega arith))
-    (λ gt. absurd (n (owner-high (getD b f 0) (omega arith))))
-
 -- a frame is free where it has no owner
 pub free-says : (owner : ℕ → ℕ) (f : ℕ) → freeOf owner f ≡ true → owner f ≡ 0
 free-says = WordLaws.free-at
@@ -129,10 +121,6 @@ module _ (F : ℕ) (o : ℕ → ℕ) (low : (g : ℕ) → o g ≤ 4096) (high : 
   pub table-owners : ownersOf (frameWords F o) ≡ o
   table-owners = WordLaws.owners-again F o low high small
 
--- words depend only on the owners below F
-pub words-same : (F : ℕ) (o p : ℕ → ℕ) → ((g : ℕ) → g < F → o g ≡ p g) → frameWords F o ≡ frameWords F p
-words-same F o p same = WordLaws.words-ext F o p same
-
 -- giving and freeing
 
 -- the frame of page t is owned by o + t, and a frame that is not given keeps its owner
@@ -150,11 +138,6 @@ freed-in owner o n f t = sym (cleared-in o n (owner f) t)
 pub freed-out : (owner : ℕ → ℕ) (o n f : ℕ) → inSpan o n (owner f) ≡ false → freed owner o n f ≡ owner f
 unfolding freed
 freed-out owner o n f t = sym (cleared-out o n (owner f) t)
-
--- the words that an allocation leaves name just the owners that it gives
-pub owners-allocated : (F : ℕ) (b : List ℕ) (o n : ℕ) → lawful F b ≡ true → n ≤ count F (freeIn b) → o + n ≤ 4097
-    → ownersOf (frameWords F (give (ownersOf b) o (framesFor F (freeIn b) n))) ≡ give (ownersOf b) o (framesFor F (freeIn b) n)
-owners-allocated F b o n t enough room = allocated-owners F b (lawful-is F b t) o n enough room
 
 -- freeing what was allocated gives back the very same words
 pub free-allocated : (F : ℕ) (b : List ℕ) (o n : ℕ) → lawful F b ≡ true → n ≤ count F (freeIn b) → 1 ≤ o → o + n ≤ 4097 → anyFrom n o (holds F (ownersOf b)) ≡ false

@@ -11,6 +11,7 @@ use lib.ListN.{length, getD, set, length-set, length-replicate, getD-replicate}
 use lib.Seq.{getD-set-same, getD-set-other, ext-getD}
 use borrow.Author.Tests.{leb-true, le-leb, lt-leb, eqb-true, eq-eqb, ne-eqb}
 use Rattle.words.specs.Searches.{allFrom}
+use Rattle.words.specs.Writes.{Filled}
 use Rattle.words.proofs.Cases.{by-test, by-dec, true-false, and-true, true-and}
 use Rattle.words.proofs.SearchLaws.{allFrom-at, at-allFrom}
 use Rattle.blocks.specs.FrameWords.{isPoolSize}
@@ -223,14 +224,14 @@ module _ (F : ℕ) where
       (fresh-word (wordOfPlace j) (omega arith) (omega arith), fresh-word (wordOfPlace j + 1) (omega arith) (omega arith), fresh-word (wordOfPlace j + 2) (omega arith) (omega arith))
 
   -- a buffer of zeros in which the pool size is written
-  pub fresh-is : (c : List ℕ) → length c ≡ controlBufferWords → ((i : ℕ) → i < controlBufferWords → getD c i 0 ≡ 0) → set c 0 F ≡ freshControl F
+  pub fresh-is : (b c : List ℕ) → Filled b 0 controlBufferWords 0 c → length c ≡ controlBufferWords → set c 0 F ≡ freshControl F
   unfolding freshControl
-  fresh-is c len zeros =
+  fresh-is b c zeros len =
       ext-getD 0 (set c 0 F) (freshControl F) (length-set c 0 F ∙ len ∙ sym fresh-length) (λ i hi.
       let lt : i < controlBufferWords = omega (arith, length-set c 0 F) in
       by-dec (ℕ-discrete i 0)
       (λ z. rw z (getD-set-same c 0 F 0 (omega arith)))
-      (λ nz. getD-set-other c 0 i F 0 nz ∙ zeros i lt ∙ sym (fresh-word i (omega arith) lt)))
+      (λ nz. getD-set-other c 0 i F 0 nz ∙ zeros .inside i zero-le lt ∙ sym (fresh-word i (omega arith) lt)))
 
 -- which places are used
 

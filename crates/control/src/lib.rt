@@ -7,9 +7,10 @@ ghost use Rattle.words.specs.Wrapping.{largestWord};
 ghost use Rattle.runs.specs.PageWords.{lastSpace};
 ghost use Rattle.control.specs.Control.{controlBufferWords, logPlaces, allOpen, poolSize, removals, openMask, wordOfPlace, recordSpace, recordFirst, recordCount, used, recordOk, recordFits, lawfulControl, isOpen, withOpened, withClosed, appended, freshControl};
 use blocks::LARGEST_POOL;
-use runs::Page;
 use runs::LAST_SPACE;
 use runs::PAGES;
+use runs::Page;
+use words::writes::fill;
 
 const POOL: usize = 0;
 
@@ -232,10 +233,6 @@ pub fn fresh_control(control: &mut [u32], pool: u32)
     requires { ⌜ length (now control) ≡ controlBufferWords ⌝ }
     ensures { λ _. ⌜ now (control .exit) ≡ freshControl pool ⌝ }
 {
-    let mut i = 0;
-    while i < WORDS {
-        control[i] = 0;
-        i += 1;
-    }
+    fill(control, 0, WORDS, 0);
     control[POOL] = pool;
 }

@@ -20,8 +20,8 @@ use ranges::page_words::range_bit;
 use refusals::judge_shared;
 use refusals::outcome;
 use runs::PAGE_WORDS;
-use tablecheck::any_mapped;
 use runs::PAGES;
+use tablecheck::any_mapped;
 
 // The first refusal that applies, or Done with zeros.
 fn judge_coverage(
@@ -59,32 +59,31 @@ fn one_if_in_range(w: u32) -> u32
     0
 }
 
-// How many pages of a space are mapped. The caller lends its 1,024 page words.
-fn mapped_pages(part: &[u32]) -> u32
-    requires { ⌜ length (now part) ≡ pagesInSpace ⌝ }
-    ensures { λ r. ⌜ r ≡ count pagesInSpace (pageMapped (now (part .entry))) ⌝ }
-{
-    let mut n: u32 = 0;
-    let mut p = 0;
-    while p < PAGE_WORDS {
-        n += one_if_mapped(part[p]);
-        p += 1;
-    }
-    n
+// Pages of a space: the mapped ones, and those of them that lie in ranges.
+struct Counted {
+    mapped: u32,
+    within: u32,
 }
 
-// How many pages of a space lie in ranges.
-fn pages_in_ranges(part: &[u32]) -> u32
+// Counts both in one pass. The caller lends the space's 1,024 page words.
+fn count_pages(part: &[u32]) -> Counted
     requires { ⌜ length (now part) ≡ pagesInSpace ⌝ }
-    ensures { λ r. ⌜ r ≡ count pagesInSpace (pageInRange (now (part .entry))) ⌝ }
+    ensures { λ r. ⌜ r .mapped ≡ count pagesInSpace (pageMapped (now (part .entry))) ⌝ }
+    ensures { λ r. ⌜ r .within ≡ count pagesInSpace (pageInRange (now (part .entry))) ⌝ }
 {
     let mut n: u32 = 0;
+    let mut m: u32 = 0;
     let mut p = 0;
     while p < PAGE_WORDS {
-        n += one_if_in_range(part[p]);
+        let w = part[p];
+        n += one_if_mapped(w);
+        m += one_if_in_range(w);
         p += 1;
     }
-    n
+    Counted {
+        mapped: n,
+        within: m,
+    }
 }
 
 // The pages in ranges in parts of 10,000 of the mapped pages, rounded down.
@@ -93,9 +92,8 @@ fn figure(part: &[u32]) -> u32
     requires { ⌜ anyFrom pagesInSpace 0 (pageMapped (now part)) ≡ true ⌝ }
     ensures { λ r. ⌜ r ≡ coverageFigure (count pagesInSpace (pageInRange (now (part .entry)))) (count pagesInSpace (pageMapped (now (part .entry)))) ⌝ }
 {
-    let within = pages_in_ranges(part);
-    let all = mapped_pages(part);
-    10000 * within / all
+    let pages = count_pages(part);
+    10000 * pages.within / pages.mapped
 }
 
 // Of a space's mapped pages, how many in 10,000 lie in ranges. Refused: 1, 2, 5, 10, 12.

@@ -6,7 +6,7 @@ ghost use lib.Dec.{eqb};
 ghost use lib.ListN.{length};
 ghost use Rattle.words.specs.Counts.{one-if};
 ghost use Rattle.words.specs.Searches.{allFrom};
-ghost use Rattle.words.specs.Writes.{PassTo, Filled, CountedUp};
+ghost use Rattle.words.specs.Writes.{PassTo, CountedUp};
 ghost use Rattle.blocks.specs.FrameWords.{ownerOf, freeIn};
 ghost use Rattle.blocks.specs.Inner.Around.{startOf};
 ghost use Rattle.blocks.specs.Inner.Passes.{sought, HeldTo};
@@ -144,19 +144,6 @@ pub fn held_to(frames: &[u32], from: usize, end: usize) -> usize
     }
     let far = chunks_to(frames, near, end, true);
     held_words(frames, far, end)
-}
-
-// Sets the words from `from` up to `end` to v.
-pub fn fill(words: &mut [u32], from: usize, end: usize, v: u32)
-    requires { ⌜ end ≤ length (now words) ⌝ }
-    requires { ⌜ from ≤ end ⌝ }
-    ensures { λ _. ⌜ Filled (now (words .entry)) from end v (now (words .exit)) ⌝ }
-{
-    let mut g = from;
-    while g < end {
-        words[g] = v;
-        g += 1;
-    }
 }
 
 // Sets the words from `from` up to `end` to first, first + 1, ..

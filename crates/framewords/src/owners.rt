@@ -7,10 +7,10 @@ ghost use Rattle.words.specs.Searches.{allFrom, anyFrom};
 ghost use Rattle.blocks.specs.FrameWords.{ownersOf, freeIn};
 ghost use Rattle.blocks.specs.Owners.{inSpan, holds};
 ghost use Rattle.blocks.specs.Inner.Passes.{MarkedOne, MarkedTo};
-use crate::buffer::fill;
 use crate::buffer::one_if_free;
 use crate::buffer::owner_of;
 use words::scans::all_same;
+use words::writes::fill;
 
 // How many frames of the pool are free, counted singly.
 pub fn count_free(frames: &[u32], pool: u32) -> u32

@@ -17,10 +17,10 @@ use history::RangeEntry;
 use history::Unit;
 use ranges::page_words::frame_at;
 use runs::LARGEST_RIGHTS;
-use runs::Page;
 use runs::LAST_PAGE;
 use runs::LAST_SPACE;
 use runs::PAGES;
+use runs::Page;
 
 // Whether every field of the page entry is zero.
 fn zero_page(e: PageEntry) -> bool

@@ -10,10 +10,10 @@ ghost use Rattle.blocks.specs.Inner.Around.{startOf, around, freeOrder};
 ghost use Rattle.blocks.specs.Inner.Passes.{Edge, SettledTo};
 use blocks::Frame;
 use framewords::buffer::all_free;
-use framewords::buffer::fill;
 use framewords::buffer::owner_of;
 use framewords::buffer::size_of;
 use framewords::buffer::start_of;
+use words::writes::fill;
 
 // Whether frame f is the start of a block of order k.
 pub fn can_start(f: Frame, k: u32) -> bool

@@ -14,9 +14,9 @@ use crate::page_words::offset;
 use crate::page_words::range_bit;
 use crate::page_words::rights_in;
 use runs::ENTRY_WORDS;
+use runs::PAGES;
 use runs::Page;
 use runs::SMALLEST_RANGE;
-use runs::PAGES;
 use words::scans::all_zero;
 
 // Whether the entry at place `at` is that of the run of n pages up to `limit`, left out, whose last word is v.

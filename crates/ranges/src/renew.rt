@@ -16,9 +16,10 @@ use crate::walk::goes_on;
 use crate::walk::joined;
 use crate::walk::over;
 use runs::ENTRY_WORDS;
+use runs::PAGES;
 use runs::Page;
 use runs::SMALLEST_RANGE;
-use runs::PAGES;
+use words::writes::fill;
 
 // Sets or clears the range bit of n pages from page a on.
 fn mark(part: &mut [u32], a: Page, n: u32, bit: bool)
@@ -81,11 +82,7 @@ fn zero_from(ranges: &mut [u32], at: usize)
     requires { ⌜ at ≤ length (now ranges) ⌝ }
     ensures { λ _. ⌜ now (ranges .exit) ≡ zeroFrom (now (ranges .entry)) at ⌝ }
 {
-    let mut j = at;
-    while j < ranges.len() {
-        ranges[j] = 0;
-        j += 1;
-    }
+    fill(ranges, at, ranges.len(), 0);
 }
 
 // Rebuilds a space's range bits and range words from its frames and rights.

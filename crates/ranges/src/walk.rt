@@ -12,8 +12,8 @@ use crate::page_words::mapped;
 use crate::page_words::rights_in;
 use blocks::LAST_FRAME;
 use runs::PAGE_WORDS;
-use runs::Page;
 use runs::PAGES;
+use runs::Page;
 use words::scans::counts_beside;
 use words::scans::zero_to;
 

@@ -16,15 +16,15 @@ ghost use Rattle.refusals.specs.Parts.{ofTables, shared};
 use crate::spans::judge_span;
 use blocks::LARGEST_POOL;
 use layout::Answer;
+use runs::LAST_SPACE;
 use runs::PAGE_WORDS;
+use runs::PAGES;
 use tablecheck::all_mapped;
 use tablecheck::any_mapped;
 use tablecheck::right_lengths;
 use tablecheck::tables_sound;
 use words::LARGEST_WORD;
-use runs::LAST_SPACE;
 use words::Outcome;
-use runs::PAGES;
 
 // The number of a refusal, with zeros.
 fn refusal(number: u32) -> Outcome

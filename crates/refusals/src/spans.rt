@@ -8,8 +8,8 @@ ghost use Rattle.layout.specs.Answers.{outcome};
 ghost use Rattle.refusals.specs.Parts.{ofSpan};
 use layout::Answer;
 use runs::LARGEST_RIGHTS;
-use tablecheck::is_span;
 use runs::LAST_SPACE;
+use tablecheck::is_span;
 
 // A span of an open space, with rights: 5, 6, 8, 10.
 pub fn judge_span(control: &[u32], space: u32, first: u32, count: u32, rights: u32) -> Answer

@@ -1,17 +1,17 @@
 -- The walk that rebuilds range bits and range words.
 use mathlib.Core.Path.{_≡_, refl, ap, _∙_, sym}
 use mathlib.Core.Bool.{Bool, true, false}
-use mathlib.Core.List.{List, [], _∷_, _++_, append-assoc, append-nil}
+use mathlib.Core.List.{List, [], _∷_, _++_}
 use Prim.Native.Nat.{ℕ, suc, _+_, _-_, _<_, _≤_, zero-le}
 use native.Mathlib.Nat.{add-zero}
-use native.Mathlib.Numerals.{add-one}
 use native.Mathlib.Decide.{decLt, ℕ-discrete}
 use native.Mathlib.Omega.{arith}
 use lib.Dec.{leb}
-use lib.ListN.{length, getD, drop, take, set, replicate, length-append, length-set, replicate-append-replicate}
-use lib.Seq.{ext-getD, getD-set-same, getD-set-other, sets, sets-eq, length-sets, take-at, take-all, take-suc-set}
+use lib.ListN.{length, getD, drop, take, set, replicate, length-append, length-set, length-replicate, getD-replicate, List·getD-append}
+use lib.Seq.{ext-getD, getD-set-same, getD-set-other, getD-take, getD-append-add, sets, sets-eq, length-sets, length-take-le, take-at}
 use borrow.Author.Tests.{le-leb, lt-leb}
 use Rattle.words.specs.Counts.{one-if}
+use Rattle.words.specs.Writes.{Filled}
 use Rattle.words.proofs.Cases.{by-test, by-dec}
 use Rattle.words.proofs.CountLaws.{one-if-le}
 use Rattle.words.proofs.WriteLaws.{change-none, change-more}
@@ -29,19 +29,20 @@ mark-none bit xs a = let z : a + 0 ≡ a = omega arith in rw z (change-none _ xs
 pub mark-more : (bit : Bool) (xs ys : List ℕ) (a k : ℕ) (x : ℕ) → a + k < length ys → Marked bit xs a k ys → x ≡ bitWord bit (getD ys (a + k) 0) → Marked bit xs a (k + 1) (set ys (a + k) x)
 mark-more bit xs ys a k x h m e = let z : a + (k + 1) ≡ a + k + 1 = omega arith in rw z (change-more _ xs a (a + k) x ys (omega arith) h e m)
 
--- Zeros, word by word
-pub zero-none : (xs : List ℕ) (at : ℕ) → at ≤ length xs → take at xs ≡ take at xs ++ replicate (at - at) 0
-zero-none xs at h = let z : at - at ≡ 0 = omega arith in rw z (sym (append-nil _))
-
-pub zero-more : (xs ys : List ℕ) (at j : ℕ) → at ≤ j → j < length ys → take j ys ≡ take at xs ++ replicate (j - at) 0 → take (j + 1) (set ys j 0) ≡ take at xs ++ replicate (j + 1 - at) 0
-zero-more xs ys at j lo h e =
-    let s : j + 1 - at ≡ (j - at) + 1 = omega arith in
-    rw (add-one j, take-suc-set ys j 0 h, e, ← add-one j, s, ← replicate-append-replicate {A = ℕ} (j - at) 1 0) (append-assoc (take at xs) (replicate (j - at) 0) (0 ∷ []))
-
-pub zero-end : (xs ys : List ℕ) (at j : ℕ) → length ys ≡ length xs → j ≡ length ys → take j ys ≡ take at xs ++ replicate (j - at) 0 → ys ≡ zeroFrom xs at
+-- zeros from a place on
+pub zero-filled : (xs ys : List ℕ) (at : ℕ) → Filled xs at (length xs) 0 ys → at ≤ length xs → length ys ≡ length xs → ys ≡ zeroFrom xs at
 unfolding zeroFrom
-zero-end xs ys at j l e h =
-    sym (take-all j ys (omega arith)) ∙ h ∙ ap (λ (k : ℕ). take at xs ++ replicate (k - at) 0) (e ∙ l)
+zero-filled xs ys at f h l =
+    let zeros : List ℕ = replicate (length xs - at) 0 in
+    let n = length-take-le at xs h in
+    let m = length-replicate {A = ℕ} (length xs - at) 0 in
+    ext-getD 0 ys (take at xs ++ zeros) (omega (arith, length-append (take at xs) zeros)) (λ i lt.
+    by-dec (decLt i at)
+    (λ before. f .below i before ∙ sym (List·getD-append (take at xs) zeros 0 i (omega arith) ∙ getD-take at xs i 0 before))
+    (λ here.
+    let e : i ≡ length (take at xs) + (i - at) = omega arith in
+    f .inside i (omega arith) (omega arith)
+    ∙ sym (ap (λ (k : ℕ). getD (take at xs ++ zeros) k 0) e ∙ getD-append-add (take at xs) zeros (i - at) 0 ∙ getD-replicate (length xs - at) (i - at) 0 0 (omega arith))))
 
 -- an entry, word by word
 pub put-is : (xs : List ℕ) (at a b c d c′ d′ : ℕ) → c ≡ c′ → d ≡ d′ → set (set (set (set xs at a) (at + 1) b) (at + 2) c) (at + 3) d ≡ sets xs at (a ∷ b ∷ c′ ∷ d′ ∷ [])

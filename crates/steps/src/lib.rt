@@ -18,9 +18,9 @@ use crate::mapping::map_space;
 use crate::protecting::protect_space;
 use crate::unmapping::unmap_space;
 use runs::PAGE_WORDS;
+use runs::PAGES;
 use runs::Page;
 use runs::RANGE_WORDS;
-use runs::PAGES;
 
 // Maps n pages from `first` on to frames that the map rule takes; how many blocks were taken.
 pub fn map_pages(

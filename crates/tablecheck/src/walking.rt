@@ -25,9 +25,9 @@ use ranges::walk::joined;
 use ranges::walk::least;
 use ranges::walk::over;
 use runs::PAGE_WORDS;
+use runs::PAGES;
 use runs::Page;
 use runs::RANGE_WORDS;
-use runs::PAGES;
 use runs::SPACES;
 use words::scans::counts_beside;
 

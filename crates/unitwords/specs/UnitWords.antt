@@ -27,7 +27,7 @@ abbrev pub lastAt : ℕ
 lastAt = 512
 
 -- page entry k is five words from word 5 k on
-unfoldable pub pageAt : List ℕ → ℕ → PageEntry
+abbrev pub pageAt : List ℕ → ℕ → PageEntry
 pageAt ws k =
     record {
       valid = getD ws (wordsInPageEntry * k) 0;
@@ -38,7 +38,7 @@ pageAt ws k =
     }
 
 -- range entry k is six words from word 320 + 6 k on
-unfoldable pub rangeAt : List ℕ → ℕ → RangeEntry
+abbrev pub rangeAt : List ℕ → ℕ → RangeEntry
 rangeAt ws k =
     record {
       valid = getD ws (rangesFrom + wordsInRangeEntry * k) 0;

@@ -8,21 +8,18 @@ use Rattle.tablecheck.specs.Judging.{pageMapped}
 use Rattle.coverage.specs.Measuring.{pageInRange}
 use Rattle.coverage.proofs.CoverageLaws.{some-counted}
 
-pages-in-ranges-requires : tie.Need-pages-in-ranges-requires
-pages-in-ranges-requires c κs = search needs
-
-mapped-pages-requires : tie.Need-mapped-pages-requires
-mapped-pages-requires c κs = search needs
+count-pages-requires : tie.Need-count-pages-requires
+count-pages-requires c κs = search needs
 
 mul-result : tie.Need-mul-result
 mul-result c = let h = count-le 1024 (pageInRange (c .before .before .before .args .part .now)) in search needs
 
 div-result : tie.Need-div-result
-div-result c = let h = some-counted 1024 (pageMapped (c .before .before .before .args .part .now)) (c .before .before .before .pre .1) in search needs
+div-result c = let h = some-counted 1024 (pageMapped (c .before .before .before .before .args .part .now)) (c .before .before .before .before .pre .1) in search needs
 
 returns : tie.Need-returns
 unfolding coverageFigure
-returns c = ap₂ coverageFigure (c .before .pages-in-ranges .ensures) (c .mapped-pages .ensures)
+returns c = ap₂ coverageFigure (c .before .before .count-pages .ensures .1) (c .before .before .count-pages .ensures .0)
 
 pub figure-spec : {M : Type 1} → statement M
-figure-spec = tie.close (tie.spec pages-in-ranges-requires mapped-pages-requires mul-result div-result returns)
+figure-spec = tie.close (tie.spec count-pages-requires mul-result div-result returns)
