@@ -15,7 +15,7 @@ use Rattle.words.specs.Tables.{tabFrom}
 use Rattle.words.specs.Counts.{count}
 use Rattle.words.proofs.Cases.{by-test, by-dec, true-false, none-some, and-true, true-and}
 use Rattle.words.proofs.CountLaws.{count-some}
-use Rattle.words.specs.Writes.{CountedUp}
+use Rattle.words.specs.Inner.{CountedUp}
 use Rattle.blocks.specs.declared.Block.{Block}
 use Rattle.blocks.specs.declared.Bound.{Bound}
 use Rattle.blocks.specs.declared.Chosen.{Chosen}
@@ -23,7 +23,7 @@ use Rattle.blocks.specs.Blocks.{inBlock}
 use Rattle.blocks.specs.FrameWords.{ownersOf, freeOf, freeIn, lawful, frameWords}
 use Rattle.blocks.specs.Choice.{takeBlock, without, leftAfter, takeBlocks, framesOf, blocksFor, framesFor}
 use Rattle.blocks.specs.Owners.{put, give}
-use Rattle.blocks.specs.Taking.{Searched, BlockTaken}
+use Rattle.blocks.specs.Inner.Taking.{Searched, BlockTaken}
 use Rattle.blocks.specs.Inner.Around.{startOf}
 use Rattle.blocks.specs.Inner.Passes.{asBlock, boundAfter, Begins, handed}
 use Rattle.blocks.proofs.AroundLaws.{in-block}

@@ -21,7 +21,7 @@ use Rattle.blocks.specs.declared.PoolCall.{PoolCall}
 use Rattle.blocks.specs.declared.PoolCall.the-variants.{SetUp, Check, Count, Allocate, Free}
 use Rattle.blocks.specs.FrameWords.{isPoolSize, ownersOf, freeIn, lawful, frameWords}
 use Rattle.blocks.specs.Owners.{freed, holds}
-use Rattle.blocks.specs.Taking.{FramesTaken}
+use Rattle.blocks.specs.Inner.Taking.{FramesTaken}
 use Rattle.blocks.specs.Calls.{outcome, PoolWords, lent, inOwners, judged, freedWords, row, Called}
 use Rattle.blocks.specs.Statements.{LowestFirst}
 use Rattle.blocks.proofs.WordLaws.{owners-small, free-zero, at-free, lawful-is, owners-high, owners-again, size-at, at-size}

@@ -14,7 +14,7 @@ use Rattle.words.specs.Counts.{count, one-if}
 use Rattle.words.specs.Searches.{anyFrom, allFrom}
 use Rattle.words.proofs.Cases.{by-test, by-dec, true-false, and-true, true-and}
 use Rattle.words.proofs.SearchLaws.{at-any, any-none, any-more, allFrom-at, at-allFrom, some-fails}
-use Rattle.words.specs.Writes.{sameIn}
+use Rattle.words.specs.Inner.{sameIn}
 use Rattle.blocks.specs.FrameWords.{ownerOf, ownersOf, freeIn, frameWords}
 use Rattle.blocks.specs.Choice.{framesFor, blocksFor}
 use Rattle.blocks.specs.Owners.{put, give, inSpan, cleared, freed, holds}

@@ -8,7 +8,7 @@ use native.Mathlib.Omega.{arith}
 use lib.ListN.{getD}
 use borrow.Author.Tests.{not-true}
 use Rattle.words.specs.Counts.{count, one-if}
-use Rattle.words.specs.Writes.{PassTo}
+use Rattle.words.specs.Inner.{PassTo}
 use Rattle.words.proofs.Cases.{by-test, by-dec, true-false}
 use Rattle.words.proofs.CountLaws.{one-if-not, count-split, none-pass, all-pass}
 use Rattle.blocks.specs.FrameWords.{isOwner, freeIn, ownedIn}

@@ -18,7 +18,7 @@ use Rattle.blocks.specs.declared.Chosen.{Chosen}
 use Rattle.blocks.specs.FrameWords.{isPoolSize, isOwner, ownerOf, ownersOf, freeOf, freeIn, lawful, frameWords}
 use Rattle.blocks.specs.Choice.{takeBlock, takeBlocks, framesOf, blocksFor, framesFor, blockCount}
 use Rattle.blocks.specs.Owners.{give, inSpan, freed, holds}
-use Rattle.blocks.specs.Taking.{Searched, nothingKnown, BlockTaken}
+use Rattle.blocks.specs.Inner.Taking.{Searched, nothingKnown, BlockTaken}
 use Rattle.blocks.proofs.WordLaws.{owners-small, lawful-is, lawful-yes, table-lawful}
 use Rattle.blocks.proofs.WordLaws
 use Rattle.blocks.proofs.ChoiceLaws.{Good, takes-good, takes-all, Taking, taking, one, end, frame-first, frame-rest, takeBlocks-same}

@@ -14,7 +14,7 @@ use Rattle.words.specs.Searches.{allFrom}
 use Rattle.words.proofs.Cases.{by-test, by-dec, true-false}
 use Rattle.words.proofs.TableLaws.{is-tabulate}
 use Rattle.words.proofs.SearchLaws.{allFrom-at, at-allFrom, some-fails}
-use Rattle.words.specs.Writes.{Filled, sameIn}
+use Rattle.words.specs.Inner.{Filled, sameIn}
 use Rattle.words.proofs.PowerLaws.{double}
 use Rattle.blocks.specs.FrameWords.{ownerOf, ownersOf, freeIn, ownedIn, lawful, frameWord, frameWords}
 use Rattle.blocks.specs.Inner.Around.{startOf, around, freeOrder, orderWord}

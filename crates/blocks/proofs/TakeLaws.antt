@@ -14,7 +14,7 @@ use borrow.Author.Tests.{ne-eqb}
 use Rattle.words.proofs.Cases.{by-test, by-dec}
 use Rattle.words.proofs.TableLaws.{is-tabulate}
 use Rattle.words.proofs.SearchLaws.{largest-ext}
-use Rattle.words.specs.Writes.{CountedUp}
+use Rattle.words.specs.Inner.{CountedUp}
 use Rattle.words.proofs.PowerLaws.{pow-less}
 use Rattle.blocks.specs.Blocks.{inBlock}
 use Rattle.blocks.specs.FrameWords.{ownersOf, freeOf, freeIn, lawful, frameWord, frameWords}

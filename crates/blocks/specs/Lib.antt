@@ -2,7 +2,6 @@ pub mod Blocks
 pub mod FrameWords
 pub mod Choice
 pub mod Owners
-pub mod Taking
 pub mod Calls
 pub mod Statements
 pub mod Inner

@@ -7,6 +7,16 @@ pub const LAST_FRAME: u32 = 4095;
 
 pub const BUFFER_WORDS: usize = 4096;
 
+// Owners are 1 to 4,096; a frame word up to that names one.
+pub const LARGEST_OWNER: u32 = 4096;
+
+// The words of a free frame, the first one of its block (with the block's order) or another, and of a place at or above F.
+pub const FREE_FIRST: u32 = 16384;
+
+pub const FREE_OTHER: u32 = 8192;
+
+pub const NO_FRAME: u32 = 65535;
+
 // A frame number. A virtual page number never stands in its place.
 pub struct Frame(pub u32);
 

@@ -11,7 +11,7 @@ use lib.ListN.{length, getD, set, length-set, length-replicate, getD-replicate}
 use lib.Seq.{getD-set-same, getD-set-other, ext-getD}
 use borrow.Author.Tests.{leb-true, le-leb, lt-leb, eqb-true, eq-eqb, ne-eqb}
 use Rattle.words.specs.Searches.{allFrom}
-use Rattle.words.specs.Writes.{Filled}
+use Rattle.words.specs.Inner.{Filled}
 use Rattle.words.proofs.Cases.{by-test, by-dec, true-false, and-true, true-and}
 use Rattle.words.proofs.SearchLaws.{allFrom-at, at-allFrom}
 use Rattle.blocks.specs.FrameWords.{isPoolSize}

@@ -15,7 +15,7 @@ use Rattle.records.specs.Input.{waiting, standing, nextOf}
 use Rattle.records.specs.Lines.{written, longestLine, header}
 use Rattle.recordcalls.specs.Steps.{freshUnits}
 use Rattle.trace.specs.Listing.{Came, last, Listed, full, stops}
-use Rattle.trace.specs.Turns.{Turned, Lies, Ready}
+use Rattle.trace.specs.Inner.{Turned, Lies, Ready}
 use Rattle.trace.proofs.ListingLaws.{record-listed}
 use Rattle.coretrace.specs.Runs.{keeps, Ran, RanWhole}
 

@@ -10,7 +10,7 @@ ghost use Rattle.layout.specs.Tables.{tables};
 ghost use Rattle.records.specs.Input.{waiting};
 ghost use Rattle.records.specs.Lines.{longestLine};
 ghost use Rattle.trace.specs.Listing.{last};
-ghost use Rattle.trace.specs.Turns.{Lies, Ready};
+ghost use Rattle.trace.specs.Inner.{Lies, Ready};
 ghost use Rattle.coretrace.specs.Runs.{keeps, Ran, RanWhole};
 use records::LONGEST_LINE;
 use records::Window;

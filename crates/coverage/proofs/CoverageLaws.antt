@@ -23,9 +23,9 @@ use Rattle.layout.specs.declared.TableCall.the-variants.{Coverage}
 use Rattle.layout.specs.Tables.{Tables, rightLengths, spacePages}
 use Rattle.layout.specs.Calls.{mappedAt, inRangesAt, coverageFigure, coverage, sizedRow, row, Called}
 use Rattle.layout.proofs.CallLaws.{call-done}
-use Rattle.tablecheck.specs.Judging.{pageMapped}
+use Rattle.tablecheck.specs.Inner.{pageMapped}
 use Rattle.tablecheck.proofs.SpanLaws.{lent-mapped}
-use Rattle.coverage.specs.Measuring.{pageInRange}
+use Rattle.coverage.specs.Inner.{pageInRange}
 
 -- counts over a space's words, one word more
 

@@ -7,6 +7,8 @@ ghost use mathlib.Core.List.{[]};
 ghost use Rattle.blocks.specs.declared.PoolCall.the-variants.{SetUp, Check, Count, Allocate, Free};
 ghost use Rattle.blocks.specs.FrameWords.{isPoolSize};
 ghost use Rattle.blocks.specs.Calls.{outcome, lent, inOwners, Called};
+use blocks::BUFFER_WORDS;
+use blocks::LARGEST_POOL;
 use blocks::Reply;
 use framewords::owners::all_held;
 use framewords::owners::any_held;
@@ -71,7 +73,7 @@ fn is_pool_size(pool: u32) -> bool
     if pool < 1 {
         return false;
     }
-    pool <= 4096
+    pool <= LARGEST_POOL
 }
 
 // Whether the n owners from `owner` on are at least one, and all from 1 to 4,096.
@@ -94,7 +96,7 @@ fn in_owners(owner: u32, n: usize) -> bool
 pub fn set_up(frames: &mut [u32], pool: u32) -> Reply
     ensures { λ r. ⌜ Called (SetUp pool) (lent (now (frames .entry)) []) (outcome r) (lent (now (frames .exit)) []) ⌝ }
 {
-    if frames.len() != 4096 {
+    if frames.len() != BUFFER_WORDS {
         return Reply::WrongLength;
     }
     let size = is_pool_size(pool);
@@ -109,7 +111,7 @@ pub fn set_up(frames: &mut [u32], pool: u32) -> Reply
 pub fn check(frames: &[u32], pool: u32) -> Reply
     ensures { λ r. ⌜ Called (Check pool) (lent (now (frames .entry)) []) (outcome r) (lent (now (frames .entry)) []) ⌝ }
 {
-    if frames.len() != 4096 {
+    if frames.len() != BUFFER_WORDS {
         return Reply::WrongLength;
     }
     let size = is_pool_size(pool);

@@ -6,17 +6,18 @@ ghost use lib.Dec.{eqb};
 ghost use lib.ListN.{length};
 ghost use Rattle.words.specs.Counts.{one-if};
 ghost use Rattle.words.specs.Searches.{allFrom};
-ghost use Rattle.words.specs.Writes.{PassTo, CountedUp};
+ghost use Rattle.words.specs.Inner.{PassTo, CountedUp};
 ghost use Rattle.blocks.specs.FrameWords.{ownerOf, freeIn};
 ghost use Rattle.blocks.specs.Inner.Around.{startOf};
 ghost use Rattle.blocks.specs.Inner.Passes.{sought, HeldTo};
 use blocks::Frame;
+use blocks::LARGEST_OWNER;
 
 // The owner that a frame word names, 0 for a free frame.
 pub fn owner_of(w: u32) -> u32
     ensures { λ r. ⌜ r ≡ ownerOf w ⌝ }
 {
-    if w <= 4096 {
+    if w <= LARGEST_OWNER {
         return w;
     }
     0

@@ -4,18 +4,19 @@ ghost use Prim.Native.Nat.{_≤_};
 ghost use lib.ListN.{length};
 ghost use Rattle.words.specs.Counts.{count};
 ghost use Rattle.words.specs.Searches.{allFrom, anyFrom};
-ghost use Rattle.blocks.specs.FrameWords.{ownersOf, freeIn};
+ghost use Rattle.blocks.specs.FrameWords.{frameBufferWords, largestOwner, largestPool, ownersOf, freeIn};
 ghost use Rattle.blocks.specs.Owners.{inSpan, holds};
 ghost use Rattle.blocks.specs.Inner.Passes.{MarkedOne, MarkedTo};
 use crate::buffer::one_if_free;
 use crate::buffer::owner_of;
+use blocks::BUFFER_WORDS;
 use words::scans::all_same;
 use words::writes::fill;
 
 // How many frames of the pool are free, counted singly.
 pub fn count_free(frames: &[u32], pool: u32) -> u32
-    requires { ⌜ length (now frames) ≡ 4096 ⌝ }
-    requires { ⌜ pool ≤ 4096 ⌝ }
+    requires { ⌜ length (now frames) ≡ frameBufferWords ⌝ }
+    requires { ⌜ pool ≤ largestPool ⌝ }
     ensures { λ r. ⌜ r ≡ count pool (freeIn (now (frames .entry))) ⌝ }
 {
     let end = pool as usize;
@@ -40,8 +41,8 @@ pub fn in_span(owner: u32, n: u32, w: u32) -> bool
 
 // Whether one of the n owners from `owner` on holds a frame.
 pub fn any_held(frames: &[u32], pool: u32, owner: u32, n: u32) -> bool
-    requires { ⌜ length (now frames) ≡ 4096 ⌝ }
-    requires { ⌜ pool ≤ 4096 ⌝ }
+    requires { ⌜ length (now frames) ≡ frameBufferWords ⌝ }
+    requires { ⌜ pool ≤ largestPool ⌝ }
     ensures { λ r. ⌜ r ≡ anyFrom n owner (holds pool (ownersOf (now (frames .entry)))) ⌝ }
 {
     let end = pool as usize;
@@ -71,8 +72,8 @@ fn mark_one(marks: &mut [u32], owner: u32, n: u32, w: u32)
 
 // Marks those of the n owners from `owner` on that hold a frame.
 fn mark_held(frames: &[u32], pool: u32, owner: u32, n: u32, marks: &mut [u32])
-    requires { ⌜ length (now frames) ≡ 4096 ⌝ }
-    requires { ⌜ pool ≤ 4096 ⌝ }
+    requires { ⌜ length (now frames) ≡ frameBufferWords ⌝ }
+    requires { ⌜ pool ≤ largestPool ⌝ }
     requires { ⌜ n ≤ length (now marks) ⌝ }
     ensures { λ _. ⌜ MarkedTo (now (frames .entry)) owner n pool (now (marks .exit)) ⌝ }
 {
@@ -88,12 +89,12 @@ fn mark_held(frames: &[u32], pool: u32, owner: u32, n: u32, marks: &mut [u32])
 
 // Whether each of the n owners from `owner` on holds a frame.
 pub fn all_held(frames: &[u32], pool: u32, owner: u32, n: u32) -> bool
-    requires { ⌜ length (now frames) ≡ 4096 ⌝ }
-    requires { ⌜ pool ≤ 4096 ⌝ }
-    requires { ⌜ n ≤ 4096 ⌝ }
+    requires { ⌜ length (now frames) ≡ frameBufferWords ⌝ }
+    requires { ⌜ pool ≤ largestPool ⌝ }
+    requires { ⌜ n ≤ largestOwner ⌝ }
     ensures { λ r. ⌜ r ≡ allFrom n owner (holds pool (ownersOf (now (frames .entry)))) ⌝ }
 {
-    let mut marks = [0u32; 4096];
+    let mut marks = [0u32; BUFFER_WORDS];
     mark_held(frames, pool, owner, n, &mut marks);
     all_same(&marks, 0, n as usize, 1)
 }

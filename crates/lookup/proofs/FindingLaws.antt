@@ -21,7 +21,7 @@ use Rattle.history.specs.declared.Finding.the-variants.{ByPage, ByRange, ByWord
 use Rattle.history.specs.Units.{noPage, noRange}
 use Rattle.history.specs.Translate.{holdsPage, covers, coveringPlace, inWord, inRanges, finding, entryFor, withPage, withRange, tableEntry, tableRange, withTableRange}
 use Rattle.history.proofs.UnitLaws.{beyond}
-use Rattle.lookup.specs.Places.{placeOr, rangeCovers}
+use Rattle.lookup.specs.Inner.{placeOr, rangeCovers}
 
 -- an entry that is there, whatever stands beyond the list
 same-entry : {A : Type 0} (l : List A) (k : ℕ) (d e : A) → k < length l → getD l k d ≡ getD l k e

@@ -4,7 +4,7 @@ ghost use Prim.Native.Nat.{_≤_};
 ghost use Rattle.words.specs.Searches.{firstFrom};
 ghost use Rattle.history.specs.Translate.{holdsPage, covers, coveringPlace};
 ghost use Rattle.history.specs.Units.{rangeEntries};
-ghost use Rattle.lookup.specs.Places.{placeOr, rangeCovers};
+ghost use Rattle.lookup.specs.Inner.{placeOr, rangeCovers};
 use history::LAST_PLACE;
 use history::NONE_USED;
 use history::PageEntry;

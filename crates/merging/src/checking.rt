@@ -4,12 +4,17 @@ ghost use mathlib.Core.Bool.{true};
 ghost use Prim.Native.Nat.{_≤_, _<_};
 ghost use lib.ListN.{length, getD};
 ghost use Rattle.words.specs.Counts.{count};
-ghost use Rattle.blocks.specs.FrameWords.{freeIn, ownedIn, lawful};
+ghost use Rattle.blocks.specs.FrameWords.{frameBufferWords, largestPool, freeIn, ownedIn, lawful};
 ghost use Rattle.blocks.specs.Inner.Passes.{Edge, Checked};
 use crate::settling::can_start;
 use crate::settling::grows;
+use blocks::BUFFER_WORDS;
+use blocks::FREE_FIRST;
+use blocks::FREE_OTHER;
 use blocks::Frame;
 use blocks::Judged;
+use blocks::LARGEST_POOL;
+use blocks::NO_FRAME;
 use framewords::buffer::held_to;
 use framewords::buffer::size_of;
 use words::scans::all_same;
@@ -17,8 +22,8 @@ use words::scans::all_same;
 // The frame after the free block of one frame at f, or frame 0 where it is no block by itself.
 // Such blocks are many in a broken-up pool. With their size known beforehand, the processor goes on to the next frame before it has the word.
 fn single_at(frames: &[u32], pool: u32, f: Frame) -> Frame
-    requires { ⌜ length (now frames) ≡ 4096 ⌝ }
-    requires { ⌜ pool ≤ 4096 ⌝ }
+    requires { ⌜ length (now frames) ≡ frameBufferWords ⌝ }
+    requires { ⌜ pool ≤ largestPool ⌝ }
     requires { ⌜ f .0 < pool ⌝ }
     requires { ⌜ freeIn (now frames) (f .0) ≡ true ⌝ }
     requires { ⌜ Edge pool (freeIn (now frames)) (f .0) ⌝ }
@@ -34,8 +39,8 @@ fn single_at(frames: &[u32], pool: u32, f: Frame) -> Frame
 // The frame after the free block at f, or frame 0 where its words are not lawful.
 // The words themselves are asked for the order, and each is read once; only the other half of the next larger block is read twice.
 fn block_at(frames: &[u32], pool: u32, f: Frame) -> Frame
-    requires { ⌜ length (now frames) ≡ 4096 ⌝ }
-    requires { ⌜ pool ≤ 4096 ⌝ }
+    requires { ⌜ length (now frames) ≡ frameBufferWords ⌝ }
+    requires { ⌜ pool ≤ largestPool ⌝ }
     requires { ⌜ f .0 < pool ⌝ }
     requires { ⌜ freeIn (now frames) (f .0) ≡ true ⌝ }
     requires { ⌜ Edge pool (freeIn (now frames)) (f .0) ⌝ }
@@ -43,16 +48,16 @@ fn block_at(frames: &[u32], pool: u32, f: Frame) -> Frame
 {
     let at = f.0 as usize;
     let w = frames[at];
-    if w == 16384 {
+    if w == FREE_FIRST {
         return single_at(frames, pool, f);
     }
-    if w < 16384 {
+    if w < FREE_FIRST {
         return Frame(0);
     }
     if 16394 < w {
         return Frame(0);
     }
-    let k = w - 16384;
+    let k = w - FREE_FIRST;
     if !can_start(f, k) {
         return Frame(0);
     }
@@ -60,7 +65,7 @@ fn block_at(frames: &[u32], pool: u32, f: Frame) -> Frame
     if pool < end {
         return Frame(0);
     }
-    if !all_same(frames, at + 1, end as usize, 8192) {
+    if !all_same(frames, at + 1, end as usize, FREE_OTHER) {
         return Frame(0);
     }
     if k == 10 {
@@ -81,13 +86,13 @@ pub fn judge(frames: &[u32], pool: u32) -> Judged
         lawful: false,
         held: 0,
     };
-    if frames.len() != 4096 {
+    if frames.len() != BUFFER_WORDS {
         return unlawful;
     }
     if pool < 1 {
         return unlawful;
     }
-    if 4096 < pool {
+    if LARGEST_POOL < pool {
         return unlawful;
     }
     let end = pool as usize;
@@ -102,7 +107,7 @@ pub fn judge(frames: &[u32], pool: u32) -> Judged
         f = held_to(frames, after, end);
         held += f - after;
     }
-    let lawful = all_same(frames, end, 4096, 65535);
+    let lawful = all_same(frames, end, BUFFER_WORDS, NO_FRAME);
     Judged {
         lawful,
         held: held as u32,

@@ -2,7 +2,7 @@
 ghost use mathlib.Core.Path.{_≡_};
 ghost use Prim.Native.Nat.{_+_, _≤_};
 ghost use lib.ListN.{length};
-ghost use Rattle.blocks.specs.FrameWords.{ownersOf, frameWords};
+ghost use Rattle.blocks.specs.FrameWords.{frameBufferWords, largestPool, ownersOf, frameWords};
 ghost use Rattle.blocks.specs.Owners.{cleared, freed};
 ghost use Rattle.blocks.specs.Inner.Passes.{ClearedTo};
 use crate::settling::settle;
@@ -21,8 +21,8 @@ fn cleared(w: u32, owner: u32, n: u32) -> u32
 
 // Takes the n owners from `owner` on out of the words below the pool size; settling sets the others, whatever they say.
 fn clear(frames: &mut [u32], pool: u32, owner: u32, n: u32)
-    requires { ⌜ length (now frames) ≡ 4096 ⌝ }
-    requires { ⌜ pool ≤ 4096 ⌝ }
+    requires { ⌜ length (now frames) ≡ frameBufferWords ⌝ }
+    requires { ⌜ pool ≤ largestPool ⌝ }
     ensures { λ _. ⌜ ClearedTo (now (frames .entry)) owner n pool (now (frames .exit)) ⌝ }
 {
     let end = pool as usize;
@@ -36,8 +36,8 @@ fn clear(frames: &mut [u32], pool: u32, owner: u32, n: u32)
 
 // Frees every frame of the n owners from `owner` on.
 pub fn release(frames: &mut [u32], pool: u32, owner: u32, n: u32)
-    requires { ⌜ length (now frames) ≡ 4096 ⌝ }
-    requires { ⌜ pool ≤ 4096 ⌝ }
+    requires { ⌜ length (now frames) ≡ frameBufferWords ⌝ }
+    requires { ⌜ pool ≤ largestPool ⌝ }
     requires { ⌜ 1 ≤ owner ⌝ }
     requires { ⌜ owner + n ≤ 4097 ⌝ }
     ensures { λ _. ⌜ now (frames .exit) ≡ frameWords pool (freed (ownersOf (now (frames .entry))) owner n) ⌝ }

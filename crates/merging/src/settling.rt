@@ -5,10 +5,14 @@ ghost use mathlib.Core.Option.{some};
 ghost use Prim.Native.Nat.{_+_, _≤_, _<_};
 ghost use lib.Dec.{eqb};
 ghost use lib.ListN.{length};
-ghost use Rattle.blocks.specs.FrameWords.{ownersOf, freeIn, frameWords};
+ghost use Rattle.blocks.specs.FrameWords.{frameBufferWords, largestPool, ownersOf, freeIn, frameWords};
 ghost use Rattle.blocks.specs.Inner.Around.{startOf, around, freeOrder};
 ghost use Rattle.blocks.specs.Inner.Passes.{Edge, SettledTo};
+use blocks::BUFFER_WORDS;
+use blocks::FREE_FIRST;
+use blocks::FREE_OTHER;
 use blocks::Frame;
+use blocks::NO_FRAME;
 use framewords::buffer::all_free;
 use framewords::buffer::owner_of;
 use framewords::buffer::size_of;
@@ -27,8 +31,8 @@ pub fn can_start(f: Frame, k: u32) -> bool
 
 // Whether the wholly free block of order k at f is half of a wholly free one.
 pub fn grows(frames: &[u32], pool: u32, f: Frame, k: u32) -> bool
-    requires { ⌜ length (now frames) ≡ 4096 ⌝ }
-    requires { ⌜ pool ≤ 4096 ⌝ }
+    requires { ⌜ length (now frames) ≡ frameBufferWords ⌝ }
+    requires { ⌜ pool ≤ largestPool ⌝ }
     requires { ⌜ f .0 < pool ⌝ }
     requires { ⌜ k < 10 ⌝ }
     requires { ⌜ Edge pool (freeIn (now frames)) (f .0) ⌝ }
@@ -48,8 +52,8 @@ pub fn grows(frames: &[u32], pool: u32, f: Frame, k: u32) -> bool
 
 // The order of the free block that starts at frame f.
 pub fn grow(frames: &[u32], pool: u32, f: Frame) -> u32
-    requires { ⌜ length (now frames) ≡ 4096 ⌝ }
-    requires { ⌜ pool ≤ 4096 ⌝ }
+    requires { ⌜ length (now frames) ≡ frameBufferWords ⌝ }
+    requires { ⌜ pool ≤ largestPool ⌝ }
     requires { ⌜ f .0 < pool ⌝ }
     requires { ⌜ freeIn (now frames) (f .0) ≡ true ⌝ }
     requires { ⌜ Edge pool (freeIn (now frames)) (f .0) ⌝ }
@@ -67,8 +71,8 @@ pub fn grow(frames: &[u32], pool: u32, f: Frame) -> u32
 
 // Settles the held frame or the free block at f; answers the frame after it.
 fn settle_at(frames: &mut [u32], pool: u32, f: Frame) -> Frame
-    requires { ⌜ length (now frames) ≡ 4096 ⌝ }
-    requires { ⌜ pool ≤ 4096 ⌝ }
+    requires { ⌜ length (now frames) ≡ frameBufferWords ⌝ }
+    requires { ⌜ pool ≤ largestPool ⌝ }
     requires { ⌜ f .0 < pool ⌝ }
     requires { ⌜ Edge pool (freeIn (now frames)) (f .0) ⌝ }
     ensures { λ r. ⌜ SettledTo pool (now (frames .entry)) (f .0) (r .0) (now (frames .exit)) ⌝ }
@@ -80,30 +84,30 @@ fn settle_at(frames: &mut [u32], pool: u32, f: Frame) -> Frame
     }
     let k = grow(frames, pool, f);
     let end = f.0 + size_of(k);
-    frames[at] = 16384 + k;
-    fill(frames, at + 1, end as usize, 8192);
+    frames[at] = FREE_FIRST + k;
+    fill(frames, at + 1, end as usize, FREE_OTHER);
     Frame(end)
 }
 
 // Rewrites every word from the owner words alone.
 pub fn settle(frames: &mut [u32], pool: u32)
-    requires { ⌜ length (now frames) ≡ 4096 ⌝ }
-    requires { ⌜ pool ≤ 4096 ⌝ }
+    requires { ⌜ length (now frames) ≡ frameBufferWords ⌝ }
+    requires { ⌜ pool ≤ largestPool ⌝ }
     ensures { λ _. ⌜ now (frames .exit) ≡ frameWords pool (ownersOf (now (frames .entry))) ⌝ }
 {
     let mut f = Frame(0);
     while f.0 < pool {
         f = settle_at(frames, pool, f);
     }
-    fill(frames, pool as usize, 4096, 65535);
+    fill(frames, pool as usize, BUFFER_WORDS, NO_FRAME);
 }
 
 // The words of a pool whose frames are all free.
 pub fn fresh(frames: &mut [u32], pool: u32)
-    requires { ⌜ length (now frames) ≡ 4096 ⌝ }
-    requires { ⌜ pool ≤ 4096 ⌝ }
+    requires { ⌜ length (now frames) ≡ frameBufferWords ⌝ }
+    requires { ⌜ pool ≤ largestPool ⌝ }
     ensures { λ _. ⌜ now (frames .exit) ≡ frameWords pool (λ g. 0) ⌝ }
 {
-    fill(frames, 0, 4096, 0);
+    fill(frames, 0, BUFFER_WORDS, 0);
     settle(frames, pool);
 }

@@ -6,7 +6,7 @@ ghost use lib.ListN.{length};
 ghost use Rattle.runs.specs.PageWords.{pagesInSpace};
 ghost use Rattle.words.specs.Tables.{part};
 ghost use Rattle.runs.specs.Walk.{entryOf, ended};
-ghost use Rattle.runs.specs.Steps.{Decides, EndFits, WordFits, zeroFrom};
+ghost use Rattle.runs.specs.Inner.{Decides, EndFits, WordFits, zeroFrom};
 ghost use Rattle.runs.specs.Runs.{rangeWordsInSpace, wordsInTableEntry};
 use crate::page_words::frame_in;
 use crate::page_words::mapped;

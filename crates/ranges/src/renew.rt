@@ -5,7 +5,7 @@ ghost use lib.ListN.{length};
 ghost use lib.Seq.{sets};
 ghost use Rattle.runs.specs.PageWords.{pagesInSpace};
 ghost use Rattle.runs.specs.Walk.{entryOf, ended, withBits, rangeWords};
-ghost use Rattle.runs.specs.Steps.{Marked, EndedRun, zeroFrom};
+ghost use Rattle.runs.specs.Inner.{Marked, EndedRun, zeroFrom};
 ghost use Rattle.runs.specs.Runs.{rangeWordsInSpace, wordsInTableEntry};
 use crate::page_words::bit_word;
 use crate::page_words::frame_in;

@@ -6,7 +6,7 @@ ghost use lib.ListN.{length};
 ghost use Rattle.runs.specs.PageWords.{pagesInSpace};
 ghost use Rattle.runs.specs.PageWords.{mapped};
 ghost use Rattle.runs.specs.Walk.{joins, goesOn};
-ghost use Rattle.runs.specs.Steps.{Empty, Onward, Along};
+ghost use Rattle.runs.specs.Inner.{Empty, Onward, Along};
 use crate::page_words::frame_in;
 use crate::page_words::mapped;
 use crate::page_words::rights_in;

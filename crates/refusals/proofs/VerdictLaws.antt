@@ -21,9 +21,9 @@ use Rattle.layout.specs.Tables.{Tables}
 use Rattle.layout.specs.Sound.{sound}
 use Rattle.layout.specs.Calls.{noSuchSpace, alreadyOpen, isSpan, mappedAt, alreadyMapped, notMapped, nothingMapped, tooFewFrames, noNumberLeft, sizedRow, row}
 use Rattle.layout.proofs.SoundLaws.{Lengths, lengths-at, sound-parts}
-use Rattle.tablecheck.specs.Judging.{pageMapped}
+use Rattle.tablecheck.specs.Inner.{pageMapped}
 use Rattle.tablecheck.proofs.SpanLaws.{lent-mapped}
-use Rattle.refusals.specs.Parts.{ofTables, ofSpan, shared}
+use Rattle.refusals.specs.Inner.{ofTables, ofSpan, shared}
 
 -- 4
 pub size-low : (F : ℕ) → F < 1 → not (isPoolSize F) ≡ true

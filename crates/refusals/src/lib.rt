@@ -12,7 +12,7 @@ ghost use Rattle.layout.specs.declared.TableCall.the-variants.{SetUpPool, Open,
 ghost use Rattle.layout.specs.Answers.{outcome};
 ghost use Rattle.layout.specs.Tables.{tables};
 ghost use Rattle.layout.specs.Calls.{row};
-ghost use Rattle.refusals.specs.Parts.{ofTables, shared};
+ghost use Rattle.refusals.specs.Inner.{ofTables, shared};
 use crate::spans::judge_span;
 use blocks::LARGEST_POOL;
 use layout::Answer;

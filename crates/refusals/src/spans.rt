@@ -5,7 +5,7 @@ ghost use Rattle.words.specs.Refusals.{decide};
 ghost use Rattle.words.specs.Rows.{refusal};
 ghost use Rattle.control.specs.Control.{controlBufferWords};
 ghost use Rattle.layout.specs.Answers.{outcome};
-ghost use Rattle.refusals.specs.Parts.{ofSpan};
+ghost use Rattle.refusals.specs.Inner.{ofSpan};
 use layout::Answer;
 use runs::LARGEST_RIGHTS;
 use runs::LAST_SPACE;

@@ -12,14 +12,14 @@ use lib.Seq.{drop-cons, ext-getD, getD-drop, take-add, take-at, drop-at, length-
 use borrow.Author.Tests.{le-leb, lt-leb, eqb-true, eqb-false, eq-eqb, not-true, not-false}
 use Rattle.words.specs.Tables.{part}
 use Rattle.words.specs.Searches.{allFrom}
-use Rattle.words.specs.Writes.{sameIn}
+use Rattle.words.specs.Inner.{sameIn}
 use Rattle.words.proofs.SearchLaws.{allFrom-at, some-fails}
 use Rattle.words.specs.Wrapping.{wrapSub}
 use Rattle.words.proofs.Cases.{by-test, by-dec, true-false, and-true, true-and}
 use Rattle.words.proofs.CountLaws.{one-if-le}
 use Rattle.runs.specs.PageWords.{mapped, rangeBit, frameIn, rightsIn}
 use Rattle.runs.specs.Walk.{joins, goesOn, wordBefore, runBefore, bitWord, withBits, ended, entryOf, entries, rangeWords, same, lawfulRanges}
-use Rattle.runs.specs.Steps.{Empty, Onward, Along, nowhere, empty, onward, Decides, EndFits, WordFits, zeroFrom}
+use Rattle.runs.specs.Inner.{Empty, Onward, Along, nowhere, empty, onward, Decides, EndFits, WordFits, zeroFrom}
 use Rattle.runs.proofs.WordLaws.{zero-unmapped, ahead, joins-at, goes-join, goes-new, bit-none, of-bit, bit-zero, zero-word, mapped-word, word-cases, lawful-word, own-bit}
 use Rattle.runs.proofs.StepLaws.{walk-empty, walk-onward, run-none, Walked, walk-start, run-le, at-length, Left, left-step, left-end, left-room, walk-step, stops-step, stops-end, bit-run, walk-end}
 use Rattle.runs.proofs.WalkLaws.{goes-zero, before-le, whole, whole-step, bit-at, withBits-at, length-withBits, ended-short, ended-long, ended-on, length-entry, last-mapped, last-none, before-word}

@@ -11,13 +11,13 @@ use lib.ListN.{length, getD, drop, take, set, replicate, length-append, length-s
 use lib.Seq.{ext-getD, getD-set-same, getD-set-other, getD-take, getD-append-add, sets, sets-eq, length-sets, length-take-le, take-at}
 use borrow.Author.Tests.{le-leb, lt-leb}
 use Rattle.words.specs.Counts.{one-if}
-use Rattle.words.specs.Writes.{Filled}
+use Rattle.words.specs.Inner.{Filled}
 use Rattle.words.proofs.Cases.{by-test, by-dec}
 use Rattle.words.proofs.CountLaws.{one-if-le}
 use Rattle.words.proofs.WriteLaws.{change-none, change-more}
 use Rattle.runs.specs.PageWords.{mapped, rangeBit}
 use Rattle.runs.specs.Walk.{joins, goesOn, runBefore, bitWord, withBits, ended, entryOf, rangeWords}
-use Rattle.runs.specs.Steps.{Empty, Onward, Along, nowhere, empty, onward, Marked, zeroFrom, markedPages, EndedRun}
+use Rattle.runs.specs.Inner.{Empty, Onward, Along, nowhere, empty, onward, Marked, zeroFrom, markedPages, EndedRun}
 use Rattle.runs.proofs.WordLaws.{zero-unmapped, mapped-word, own-bit, joins-at, bit-none, goes-join, goes-new}
 use Rattle.runs.proofs.StepLaws.{walk-empty, walk-onward, run-none, next-on, next-short, next-long, Walked, walk-start, run-le, at-length, left-step, left-end, left-room, walk-step, stops-step, stops-end, bit-run, walk-end}
 use Rattle.runs.proofs.WalkLaws.{goes-zero, whole, bit-at, withBits-at, length-withBits, ended-short, ended-long, ended-on}

@@ -12,12 +12,12 @@ use lib.ListN.{length, getD, drop, take, replicate, length-append}
 use lib.Seq.{length-take-le}
 use borrow.Author.Tests.{eqb-true}
 use Rattle.words.specs.Counts.{one-if}
-use Rattle.words.specs.Writes.{sameIn, countsBeside, PassTo}
+use Rattle.words.specs.Inner.{sameIn, countsBeside, PassTo}
 use Rattle.words.proofs.Cases.{by-dec, true-false}
 use Rattle.words.proofs.ScanLaws.{beside-at}
 use Rattle.runs.specs.PageWords.{mapped, frameIn}
 use Rattle.runs.specs.Walk.{joins, goesOn, wordBefore, runBefore, bitWord, ended, entriesFrom, entries, rangeWords}
-use Rattle.runs.specs.Steps.{zeroFrom, Empty, Onward, Along, nowhere, empty, onward}
+use Rattle.runs.specs.Inner.{zeroFrom, Empty, Onward, Along, nowhere, empty, onward}
 use Rattle.runs.proofs.WordLaws.{frame-lt, zero-unmapped, join, not-joins, goes-join, goes-new, ahead-joins}
 use Rattle.runs.proofs.WalkLaws.{last-mapped, before-suc, before-le, whole, whole-end, whole-last, bit-at, bit-ended, entries-suc, entries-end, ended-short, ended-long, ended-on, length-entry, entries-few}
 

@@ -1,4 +1,4 @@
 pub mod PageWords
 pub mod Runs
 pub mod Walk
-pub mod Steps
+pub mod Inner

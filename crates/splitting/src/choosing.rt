@@ -5,10 +5,11 @@ ghost use mathlib.Core.Option.{some};
 ghost use Prim.Native.Nat.{_≤_};
 ghost use Rattle.blocks.specs.FrameWords.{freeIn, lawful};
 ghost use Rattle.blocks.specs.Choice.{takeBlock};
-ghost use Rattle.blocks.specs.Taking.{Searched, nothingKnown};
+ghost use Rattle.blocks.specs.Inner.Taking.{Searched, nothingKnown};
 ghost use Rattle.blocks.specs.Inner.Passes.{orderWithin, orderAt, least, asBlock, scanFrom, boundAfter};
 use blocks::Block;
 use blocks::Bound;
+use blocks::FREE_FIRST;
 use blocks::Frame;
 use framewords::buffer::size_of;
 use framewords::buffer::start_of;
@@ -82,7 +83,7 @@ pub fn choose(frames: &[u32], pool: u32, left: u32, known: Bound) -> Block
             let first = start_of(from, k);
             let mut f = first.0;
             while f < pool {
-                if frames[f as usize] == 16384 + k {
+                if frames[f as usize] == FREE_FIRST + k {
                     let order = least(k, top);
                     break 'search Block {
                         start: Frame(f),

@@ -4,8 +4,8 @@ ghost use mathlib.Core.Bool.{true};
 ghost use Prim.Native.Nat.{_+_, _^_, _≤_};
 ghost use lib.ListN.{length};
 ghost use Rattle.words.specs.Counts.{count};
-ghost use Rattle.blocks.specs.FrameWords.{ownersOf, freeIn, lawful, frameWords};
-ghost use Rattle.blocks.specs.Taking.{Searched, BlockTaken, FramesTaken};
+ghost use Rattle.blocks.specs.FrameWords.{frameBufferWords, largestOwner, ownersOf, freeIn, lawful, frameWords};
+ghost use Rattle.blocks.specs.Inner.Taking.{Searched, BlockTaken, FramesTaken};
 ghost use Rattle.blocks.specs.Inner.Passes.{Halved, Begins, handed};
 use crate::choosing::bound_after;
 use crate::choosing::choose;
@@ -13,13 +13,14 @@ use crate::choosing::nothing_known;
 use blocks::Block;
 use blocks::Bound;
 use blocks::Chosen;
+use blocks::FREE_FIRST;
 use blocks::Frame;
 use framewords::buffer::count_up;
 use framewords::buffer::size_of;
 
 // Marks the upper halves that are left of the block of order `top` at s when its part of order `order` is taken.
 fn halve(frames: &mut [u32], s: Frame, order: u32, top: u32)
-    requires { ⌜ length (now frames) ≡ 4096 ⌝ }
+    requires { ⌜ length (now frames) ≡ frameBufferWords ⌝ }
     requires { ⌜ order ≤ top ⌝ }
     requires { ⌜ top ≤ 10 ⌝ }
     requires { ⌜ s .0 + 2 ^ top ≤ 4096 ⌝ }
@@ -29,7 +30,7 @@ fn halve(frames: &mut [u32], s: Frame, order: u32, top: u32)
     let mut k = order;
     while k < top {
         let size = size_of(k);
-        frames[(at + size) as usize] = 16384 + k;
+        frames[(at + size) as usize] = FREE_FIRST + k;
         k += 1;
     }
 }
@@ -39,13 +40,13 @@ fn take_at(frames: &mut [u32], pool: u32, b: Block, owner: u32)
     requires { ⌜ lawful pool (now frames) ≡ true ⌝ }
     requires { ⌜ Begins pool (now frames) (b .start .0) (b .order) ⌝ }
     requires { ⌜ 1 ≤ owner ⌝ }
-    requires { ⌜ owner ≤ 4096 ⌝ }
+    requires { ⌜ owner ≤ largestOwner ⌝ }
     ensures { λ _. ⌜ now (frames .exit) ≡ frameWords pool (handed (ownersOf (now (frames .entry))) (b .order) (b .start .0) owner) ⌝ }
 {
     let start = b.start;
     let order = b.order;
     let s = start.0 as usize;
-    let top = frames[s] - 16384;
+    let top = frames[s] - FREE_FIRST;
     let size = size_of(order) as usize;
     count_up(frames, s, s + size, owner);
     halve(frames, start, order, top);

@@ -17,7 +17,7 @@ use Rattle.layout.proofs.SoundLaws.{space-room}
 use Rattle.layout.proofs.SpaceLaws.{part-length}
 use Rattle.layout.proofs.PlainLaws.{rangeWords-long}
 use Rattle.layout.proofs.StepLaws.{lent-is}
-use Rattle.steps.specs.Steps.{MapStep, UnmapStep, ProtectStep}
+use Rattle.steps.specs.Inner.{MapStep, UnmapStep, ProtectStep}
 
 module _ (ps rs : List ℕ) (lp : length ps ≡ 4096) (lr : length rs ≡ 2048) (s : ℕ) (h : s ≤ 3) (ws es ps′ rs′ : List ℕ)
     (pe : ps′ ≡ take (1024 * s) ps ++ (ws ++ drop ((1024 * s + 1024) - 1024 * s) (drop (1024 * s) ps)))

@@ -11,7 +11,7 @@ ghost use Rattle.blocks.specs.Choice.{framesOf, framesFor, blockCount};
 ghost use Rattle.blocks.specs.Owners.{give};
 ghost use Rattle.runs.specs.Runs.{rangeWordsInSpace};
 ghost use Rattle.layout.specs.Changes.{mapWords};
-ghost use Rattle.steps.specs.Steps.{MapStep};
+ghost use Rattle.steps.specs.Inner.{MapStep};
 use blocks::Block;
 use blocks::Frame;
 use frames::unchecked::nothing_known;

@@ -9,7 +9,7 @@ ghost use Rattle.words.specs.Counts.{one-if};
 ghost use Rattle.runs.specs.PageWords.{pageWord, rightsIn, frameIn};
 ghost use Rattle.runs.specs.Runs.{rangeWordsInSpace};
 ghost use Rattle.layout.specs.Changes.{protectWords, differing};
-ghost use Rattle.steps.specs.Steps.{ProtectStep};
+ghost use Rattle.steps.specs.Inner.{ProtectStep};
 use ranges::page_words::frame_in;
 use ranges::page_words::page_word;
 use ranges::page_words::rights_in;

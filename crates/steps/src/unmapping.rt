@@ -5,7 +5,7 @@ ghost use lib.ListN.{length};
 ghost use Rattle.runs.specs.PageWords.{pagesInSpace};
 ghost use Rattle.runs.specs.Runs.{rangeWordsInSpace};
 ghost use Rattle.layout.specs.Changes.{unmapWords, mappedIn};
-ghost use Rattle.steps.specs.Steps.{UnmapStep};
+ghost use Rattle.steps.specs.Inner.{UnmapStep};
 use ranges::page_words::one_if_mapped;
 use ranges::renew::renew;
 use runs::Page;

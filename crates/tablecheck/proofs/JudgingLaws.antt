@@ -23,7 +23,7 @@ use Rattle.layout.specs.Tables.{Tables, tables, rightLengths, spacePages, space
 use Rattle.layout.specs.Sound.{sound}
 use Rattle.layout.proofs.SpaceLaws.{part-at}
 use Rattle.layout.proofs.SoundLaws.{Lengths, lengths-at, space-room, pages-long, Parts, sound-parts, parts-sound, none-at, at-none, closed-at, at-closed}
-use Rattle.tablecheck.specs.Judging.{pageMapped, spaceSound}
+use Rattle.tablecheck.specs.Inner.{pageMapped, spaceSound}
 use Rattle.tablecheck.proofs.WalkingLaws.{fits-says, says-fits, part-says, says-part}
 
 -- lengths

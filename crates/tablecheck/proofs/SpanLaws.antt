@@ -13,7 +13,7 @@ use Rattle.words.proofs.Cases.{by-test, by-dec, and-true, true-and}
 use Rattle.runs.specs.PageWords.{mapped}
 use Rattle.layout.specs.Tables.{Tables, spacePages}
 use Rattle.layout.specs.Calls.{isSpan, mappedAt}
-use Rattle.tablecheck.specs.Judging.{pageMapped}
+use Rattle.tablecheck.specs.Inner.{pageMapped}
 
 -- a span
 

@@ -10,14 +10,14 @@ use borrow.Author.Tests.{not-true, eq-eqb}
 use Rattle.words.specs.Counts.{count, one-if}
 use Rattle.words.specs.Searches.{allFrom, every}
 use Rattle.words.specs.Tables.{part}
-use Rattle.words.specs.Writes.{countsBeside, PassTo}
+use Rattle.words.specs.Inner.{countsBeside, PassTo}
 use Rattle.words.proofs.Cases.{true-false, by-test, and-true, true-and}
 use Rattle.words.proofs.SearchLaws.{at-allFrom, all-step, all-steps, every-at, at-every, every-all}
 use Rattle.words.proofs.ScanLaws.{beside-at}
 use Rattle.words.proofs.CountLaws.{count-step, one-if-le, count-ext, count-split, none-pass, all-pass}
 use Rattle.runs.specs.PageWords.{mapped, frameIn}
 use Rattle.runs.specs.Walk.{lawfulRanges}
-use Rattle.runs.specs.Steps.{Along, nowhere, empty, onward}
+use Rattle.runs.specs.Inner.{Along, nowhere, empty, onward}
 use Rattle.runs.proofs.WordLaws.{zero-unmapped, ahead}
 use Rattle.runs.proofs.StepLaws.{along-room}
 use Rattle.control.specs.Control.{isOpen}
@@ -26,7 +26,7 @@ use Rattle.layout.proofs.PointingLaws.{page-unmapped, page-names}
 use Rattle.layout.specs.Tables.{spacePages, spaceRanges}
 use Rattle.layout.proofs.SpaceLaws.{part-at}
 use Rattle.layout.proofs.SoundLaws.{space-room}
-use Rattle.tablecheck.specs.Judging.{pageMapped, pageFits, partSound, spaceSound, Named}
+use Rattle.tablecheck.specs.Inner.{pageMapped, pageFits, partSound, spaceSound, Named}
 
 -- one page
 

@@ -5,7 +5,7 @@ ghost use lib.ListN.{length};
 ghost use Rattle.runs.specs.PageWords.{pagesInSpace};
 ghost use Rattle.words.specs.Searches.{allFrom, anyFrom};
 ghost use Rattle.layout.specs.Calls.{isSpan};
-ghost use Rattle.tablecheck.specs.Judging.{pageMapped};
+ghost use Rattle.tablecheck.specs.Inner.{pageMapped};
 use ranges::page_words::mapped;
 use runs::PAGES;
 

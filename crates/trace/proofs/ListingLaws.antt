@@ -21,7 +21,7 @@ use Rattle.records.specs.Lines.{written, line}
 use Rattle.recordcalls.specs.Steps.{RecordTaken}
 use Rattle.records.proofs.InputLaws.{within, waits-behind, whole-stands, same-standing, same-next}
 use Rattle.trace.specs.Listing.{Came, ended, cut, taken, last, Listed, goes-on}
-use Rattle.trace.specs.Turns.{Turned, Ready, stopped, shownOf, wantsUnit}
+use Rattle.trace.specs.Inner.{Turned, Ready, stopped, shownOf, wantsUnit}
 
 -- what comes next, by its case
 module _ (T : Tables) (p : TwoUnits) (next : Next) where

@@ -10,7 +10,7 @@ ghost use Rattle.records.specs.Lines.{written};
 ghost use Rattle.recordcalls.specs.Steps.{freshUnits};
 ghost use Rattle.records.specs.Lines.{longestLine};
 ghost use Rattle.trace.specs.Listing.{Came};
-ghost use Rattle.trace.specs.Turns.{Turned, Lies, Ready, stopped, shownOf, wantsUnit};
+ghost use Rattle.trace.specs.Inner.{Turned, Lies, Ready, stopped, shownOf, wantsUnit};
 use crate::State;
 use crate::Turn;
 use recordcalls::TwoUnits;

@@ -13,7 +13,7 @@ use Rattle.history.specs.declared.RangeEntry.{RangeEntry}
 use Rattle.history.specs.declared.Unit.{Unit as TlbUnit}
 use Rattle.history.specs.Units.{noPage, noRange}
 use Rattle.invalidation.specs.Entries.{withPages, withRanges}
-use Rattle.unitwords.specs.UnitWords.{pageAt, rangeAt, unitOf, pageWords, rangeWords, lastWords, joined, wordsOf}
+use Rattle.unitwords.specs.UnitWords.{pageEntryAt, rangeEntryAt, unitOf, pageEntryWords, rangeEntryWords, wordsBehindEntries, joined, wordsOf}
 
 -- past the end of a list
 none-left : {A : Type 0} (l : List A) (n : ℕ) → length l ≤ n → drop n l ≡ []
@@ -116,7 +116,7 @@ module _ {A : Type 0} (f : A → List ℕ) where
       all-written n k z e g = rw (z, take-all n l (omega arith), none-left b (m * n) (omega arith)) (append-nil (joined f l))
 
 -- the page entries, the range entries and the rest, read
-pub read-all : (ws : List ℕ) (x y v : TlbUnit) → y ≡ withPages x (tabulate 64 (pageAt ws)) → v ≡ withRanges y (tabulate 32 (rangeAt ws))
+pub read-all : (ws : List ℕ) (x y v : TlbUnit) → y ≡ withPages x (tabulate 64 (pageEntryAt ws)) → v ≡ withRanges y (tabulate 32 (rangeEntryAt ws))
     → record { pages = v .pages; ranges = v .ranges; last = getD ws 512 0; next = getD ws 513 0; seen = getD ws 514 0 } ≡ unitOf ws
 unfolding unitOf
 read-all ws x y v e g = rw (g, e)
@@ -135,50 +135,50 @@ in-three xs p r t ex ep er =
 
 -- an entry is read where its fields are
 page-made : (ws : List ℕ) (k : ℕ) (e : PageEntry) → getD ws (5 * k) 0 ≡ e .valid → getD ws (5 * k + 1) 0 ≡ e .space → getD ws (5 * k + 2) 0 ≡ e .page → getD ws (5 * k + 3) 0 ≡ e .frame → getD ws (5 * k + 4) 0 ≡ e .rights
-    → e ≡ pageAt ws k
-unfolding pageAt
-page-made ws k e v s p f r = rw (pageAt, v, s, p, f, r)
+    → e ≡ pageEntryAt ws k
+unfolding pageEntryAt
+page-made ws k e v s p f r = rw (pageEntryAt, v, s, p, f, r)
 
 range-made : (ws : List ℕ) (k : ℕ) (e : RangeEntry) → getD ws (320 + 6 * k) 0 ≡ e .valid → getD ws (320 + 6 * k + 1) 0 ≡ e .space → getD ws (320 + 6 * k + 2) 0 ≡ e .base → getD ws (320 + 6 * k + 3) 0 ≡ e .limit → getD ws (320 + 6 * k + 4) 0 ≡ e .offset → getD ws (320 + 6 * k + 5) 0 ≡ e .rights
-    → e ≡ rangeAt ws k
-unfolding rangeAt
-range-made ws k e v s b l o r = rw (rangeAt, v, s, b, l, o, r)
+    → e ≡ rangeEntryAt ws k
+unfolding rangeEntryAt
+range-made ws k e v s b l o r = rw (rangeEntryAt, v, s, b, l, o, r)
 
 module _ (u : TlbUnit) (ps : length (u .pages) ≡ 64) (rs : length (u .ranges) ≡ 32) where
-  long-pages : length (joined pageWords (u .pages)) ≡ 320
-  long-pages = length-joined pageWords 5 (λ x. refl) (u .pages) ∙ ap (λ (n : ℕ). 5 * n) ps
+  long-pages : length (joined pageEntryWords (u .pages)) ≡ 320
+  long-pages = length-joined pageEntryWords 5 (λ x. refl) (u .pages) ∙ ap (λ (n : ℕ). 5 * n) ps
 
-  long-ranges : length (joined rangeWords (u .ranges)) ≡ 192
-  long-ranges = length-joined rangeWords 6 (λ x. refl) (u .ranges) ∙ ap (λ (n : ℕ). 6 * n) rs
+  long-ranges : length (joined rangeEntryWords (u .ranges)) ≡ 192
+  long-ranges = length-joined rangeEntryWords 6 (λ x. refl) (u .ranges) ∙ ap (λ (n : ℕ). 6 * n) rs
 
   -- the words of a unit, written part by part
-  pub write-all : (xs p r t : List ℕ) → length xs ≡ 515 → p ≡ joined pageWords (u .pages) → r ≡ joined rangeWords (u .ranges) → t ≡ lastWords u → over 512 3 (over 320 192 (over 0 320 xs p) r) t ≡ wordsOf u
+  pub write-all : (xs p r t : List ℕ) → length xs ≡ 515 → p ≡ joined pageEntryWords (u .pages) → r ≡ joined rangeEntryWords (u .ranges) → t ≡ wordsBehindEntries u → over 512 3 (over 320 192 (over 0 320 xs p) r) t ≡ wordsOf u
   unfolding wordsOf
-  write-all xs p r t e ep er et = rw (ep, er, et) (in-three xs (joined pageWords (u .pages)) (joined rangeWords (u .ranges)) (lastWords u) e long-pages long-ranges)
+  write-all xs p r t e ep er et = rw (ep, er, et) (in-three xs (joined pageEntryWords (u .pages)) (joined rangeEntryWords (u .ranges)) (wordsBehindEntries u) e long-pages long-ranges)
 
-  page-word : (k j : ℕ) → k < 64 → j < 5 → getD (wordsOf u) (5 * k + j) 0 ≡ getD (pageWords (getD (u .pages) k noPage)) j 0
+  page-word : (k j : ℕ) → k < 64 → j < 5 → getD (wordsOf u) (5 * k + j) 0 ≡ getD (pageEntryWords (getD (u .pages) k noPage)) j 0
   unfolding wordsOf
-  page-word k j h i = joined-at pageWords 5 (λ x. refl) (u .pages) (joined rangeWords (u .ranges) ++ lastWords u) k j noPage (omega arith) i
+  page-word k j h i = joined-at pageEntryWords 5 (λ x. refl) (u .pages) (joined rangeEntryWords (u .ranges) ++ wordsBehindEntries u) k j noPage (omega arith) i
 
   -- past the page entries
-  later-word : (i : ℕ) → getD (wordsOf u) (320 + i) 0 ≡ getD (joined rangeWords (u .ranges) ++ lastWords u) i 0
+  later-word : (i : ℕ) → getD (wordsOf u) (320 + i) 0 ≡ getD (joined rangeEntryWords (u .ranges) ++ wordsBehindEntries u) i 0
   unfolding wordsOf
-  later-word i = rw (← long-pages) (getD-append-add (joined pageWords (u .pages)) (joined rangeWords (u .ranges) ++ lastWords u) i 0)
+  later-word i = rw (← long-pages) (getD-append-add (joined pageEntryWords (u .pages)) (joined rangeEntryWords (u .ranges) ++ wordsBehindEntries u) i 0)
 
-  range-word : (k j : ℕ) → k < 32 → j < 6 → getD (wordsOf u) (320 + 6 * k + j) 0 ≡ getD (rangeWords (getD (u .ranges) k noRange)) j 0
+  range-word : (k j : ℕ) → k < 32 → j < 6 → getD (wordsOf u) (320 + 6 * k + j) 0 ≡ getD (rangeEntryWords (getD (u .ranges) k noRange)) j 0
   range-word k j h i =
       let at : 320 + 6 * k + j ≡ 320 + (6 * k + j) = omega arith in
-      rw at (later-word (6 * k + j) ∙ joined-at rangeWords 6 (λ x. refl) (u .ranges) (lastWords u) k j noRange (omega arith) i)
+      rw at (later-word (6 * k + j) ∙ joined-at rangeEntryWords 6 (λ x. refl) (u .ranges) (wordsBehindEntries u) k j noRange (omega arith) i)
 
-  last-word : (j : ℕ) → getD (wordsOf u) (320 + (192 + j)) 0 ≡ getD (lastWords u) j 0
-  last-word j = later-word (192 + j) ∙ rw (← long-ranges) (getD-append-add (joined rangeWords (u .ranges)) (lastWords u) j 0)
+  last-word : (j : ℕ) → getD (wordsOf u) (320 + (192 + j)) 0 ≡ getD (wordsBehindEntries u) j 0
+  last-word j = later-word (192 + j) ∙ rw (← long-ranges) (getD-append-add (joined rangeEntryWords (u .ranges)) (wordsBehindEntries u) j 0)
 
-  pages-same : (k : ℕ) → k < 64 → getD (u .pages) k noPage ≡ pageAt (wordsOf u) k
+  pages-same : (k : ℕ) → k < 64 → getD (u .pages) k noPage ≡ pageEntryAt (wordsOf u) k
   pages-same k h =
       let start : 5 * k ≡ 5 * k + 0 = omega arith in
       page-made (wordsOf u) k _ (rw start (page-word k 0 h (omega arith))) (page-word k 1 h (omega arith)) (page-word k 2 h (omega arith)) (page-word k 3 h (omega arith)) (page-word k 4 h (omega arith))
 
-  ranges-same : (k : ℕ) → k < 32 → getD (u .ranges) k noRange ≡ rangeAt (wordsOf u) k
+  ranges-same : (k : ℕ) → k < 32 → getD (u .ranges) k noRange ≡ rangeEntryAt (wordsOf u) k
   ranges-same k h =
       let start : 320 + 6 * k ≡ 320 + 6 * k + 0 = omega arith in
       range-made (wordsOf u) k _ (rw start (range-word k 0 h (omega arith))) (range-word k 1 h (omega arith)) (range-word k 2 h (omega arith)) (range-word k 3 h (omega arith)) (range-word k 4 h (omega arith)) (range-word k 5 h (omega arith))
@@ -187,4 +187,4 @@ module _ (u : TlbUnit) (ps : length (u .pages) ≡ 64) (rs : length (u .ranges) 
   pub same-unit : (ws : List ℕ) → ws ≡ wordsOf u → unitOf ws ≡ u
   unfolding unitOf
   same-unit ws e =
-      rw (e, ← is-tabulate (u .pages) 64 (pageAt (wordsOf u)) noPage ps pages-same, ← is-tabulate (u .ranges) 32 (rangeAt (wordsOf u)) noRange rs ranges-same, last-word 0, last-word 1, last-word 2)
+      rw (e, ← is-tabulate (u .pages) 64 (pageEntryAt (wordsOf u)) noPage ps pages-same, ← is-tabulate (u .ranges) 32 (rangeEntryAt (wordsOf u)) noRange rs ranges-same, last-word 0, last-word 1, last-word 2)

@@ -9,8 +9,8 @@ use Rattle.history.specs.declared.Unit.{Unit as TlbUnit}
 use Rattle.history.specs.Units.{pageEntries, rangeEntries}
 
 -- 64 entries of five words, 32 of six, and three words
-abbrev pub unitWords : ℕ
-unitWords = 515
+abbrev pub wordsInUnit : ℕ
+wordsInUnit = 515
 
 abbrev pub wordsInPageEntry : ℕ
 wordsInPageEntry = 5
@@ -22,13 +22,13 @@ wordsInRangeEntry = 6
 abbrev pub rangesFrom : ℕ
 rangesFrom = 320
 
--- where the last used range entry stands
+-- where the number of the last used range entry stands; the next place and the records seen follow
 abbrev pub lastAt : ℕ
 lastAt = 512
 
 -- page entry k is five words from word 5 k on
-abbrev pub pageAt : List ℕ → ℕ → PageEntry
-pageAt ws k =
+abbrev pub pageEntryAt : List ℕ → ℕ → PageEntry
+pageEntryAt ws k =
     record {
       valid = getD ws (wordsInPageEntry * k) 0;
       space = getD ws (wordsInPageEntry * k + 1) 0;
@@ -38,8 +38,8 @@ pageAt ws k =
     }
 
 -- range entry k is six words from word 320 + 6 k on
-abbrev pub rangeAt : List ℕ → ℕ → RangeEntry
-rangeAt ws k =
+abbrev pub rangeEntryAt : List ℕ → ℕ → RangeEntry
+rangeEntryAt ws k =
     record {
       valid = getD ws (rangesFrom + wordsInRangeEntry * k) 0;
       space = getD ws (rangesFrom + wordsInRangeEntry * k + 1) 0;
@@ -51,16 +51,16 @@ rangeAt ws k =
 
 -- the unit that 515 words are
 unfoldable pub unitOf : List ℕ → TlbUnit
-unitOf ws = record { pages = tabulate pageEntries (pageAt ws); ranges = tabulate rangeEntries (rangeAt ws); last = getD ws lastAt 0; next = getD ws (lastAt + 1) 0; seen = getD ws (lastAt + 2) 0 }
+unitOf ws = record { pages = tabulate pageEntries (pageEntryAt ws); ranges = tabulate rangeEntries (rangeEntryAt ws); last = getD ws lastAt 0; next = getD ws (lastAt + 1) 0; seen = getD ws (lastAt + 2) 0 }
 
-abbrev pub pageWords : PageEntry → List ℕ
-pageWords e = e .valid ∷ e .space ∷ e .page ∷ e .frame ∷ e .rights ∷ []
+abbrev pub pageEntryWords : PageEntry → List ℕ
+pageEntryWords e = e .valid ∷ e .space ∷ e .page ∷ e .frame ∷ e .rights ∷ []
 
-abbrev pub rangeWords : RangeEntry → List ℕ
-rangeWords e = e .valid ∷ e .space ∷ e .base ∷ e .limit ∷ e .offset ∷ e .rights ∷ []
+abbrev pub rangeEntryWords : RangeEntry → List ℕ
+rangeEntryWords e = e .valid ∷ e .space ∷ e .base ∷ e .limit ∷ e .offset ∷ e .rights ∷ []
 
-abbrev pub lastWords : TlbUnit → List ℕ
-lastWords u = u .last ∷ u .next ∷ u .seen ∷ []
+abbrev pub wordsBehindEntries : TlbUnit → List ℕ
+wordsBehindEntries u = u .last ∷ u .next ∷ u .seen ∷ []
 
 -- the words of entries, one entry after another
 unfoldable pub joined : {A : Type 0} → (A → List ℕ) → List A → List ℕ
@@ -69,4 +69,4 @@ joined f (x ∷ xs) = f x ++ joined f xs
 
 -- the words of a unit
 unfoldable pub wordsOf : TlbUnit → List ℕ
-wordsOf u = joined pageWords (u .pages) ++ (joined rangeWords (u .ranges) ++ lastWords u)
+wordsOf u = joined pageEntryWords (u .pages) ++ (joined rangeEntryWords (u .ranges) ++ wordsBehindEntries u)

@@ -5,7 +5,7 @@ ghost use lib.ListN.{length};
 ghost use Rattle.words.specs.Tables.{tabulate};
 ghost use Rattle.history.specs.Units.{rangeEntries, pageEntries};
 ghost use Rattle.invalidation.specs.Entries.{withPages, withRanges};
-ghost use Rattle.unitwords.specs.UnitWords.{unitWords, rangesFrom, pageAt, rangeAt, unitOf, pageWords, rangeWords, lastWords, joined, wordsOf};
+ghost use Rattle.unitwords.specs.UnitWords.{wordsInUnit, rangesFrom, pageEntryAt, rangeEntryAt, unitOf, pageEntryWords, rangeEntryWords, wordsBehindEntries, joined, wordsOf};
 use history::PageEntry;
 use history::RangeEntry;
 use history::Unit;
@@ -14,9 +14,9 @@ pub const UNIT_WORDS: usize = 515;
 
 // Page entry k.
 fn page_at(words: &[u32], k: usize) -> PageEntry
-    requires { ⌜ length (now words) ≡ unitWords ⌝ }
+    requires { ⌜ length (now words) ≡ wordsInUnit ⌝ }
     requires { ⌜ k < pageEntries ⌝ }
-    ensures { λ r. ⌜ r ≡ pageAt (now (words .entry)) k ⌝ }
+    ensures { λ r. ⌜ r ≡ pageEntryAt (now (words .entry)) k ⌝ }
 {
     let at = 5 * k;
     PageEntry {
@@ -30,9 +30,9 @@ fn page_at(words: &[u32], k: usize) -> PageEntry
 
 // Range entry k.
 fn range_at(words: &[u32], k: usize) -> RangeEntry
-    requires { ⌜ length (now words) ≡ unitWords ⌝ }
+    requires { ⌜ length (now words) ≡ wordsInUnit ⌝ }
     requires { ⌜ k < rangeEntries ⌝ }
-    ensures { λ r. ⌜ r ≡ rangeAt (now (words .entry)) k ⌝ }
+    ensures { λ r. ⌜ r ≡ rangeEntryAt (now (words .entry)) k ⌝ }
 {
     let at = 320 + 6 * k;
     RangeEntry {
@@ -47,8 +47,8 @@ fn range_at(words: &[u32], k: usize) -> RangeEntry
 
 // The unit with the page entries of the words.
 fn with_pages(u: Unit, words: &[u32]) -> Unit
-    requires { ⌜ length (now words) ≡ unitWords ⌝ }
-    ensures { λ r. ⌜ r ≡ withPages u (tabulate pageEntries (pageAt (now (words .entry)))) ⌝ }
+    requires { ⌜ length (now words) ≡ wordsInUnit ⌝ }
+    ensures { λ r. ⌜ r ≡ withPages u (tabulate pageEntries (pageEntryAt (now (words .entry)))) ⌝ }
 {
     let mut v = u;
     for k in 0..64 {
@@ -60,8 +60,8 @@ fn with_pages(u: Unit, words: &[u32]) -> Unit
 
 // The unit with the range entries of the words.
 fn with_ranges(u: Unit, words: &[u32]) -> Unit
-    requires { ⌜ length (now words) ≡ unitWords ⌝ }
-    ensures { λ r. ⌜ r ≡ withRanges u (tabulate rangeEntries (rangeAt (now (words .entry)))) ⌝ }
+    requires { ⌜ length (now words) ≡ wordsInUnit ⌝ }
+    ensures { λ r. ⌜ r ≡ withRanges u (tabulate rangeEntries (rangeEntryAt (now (words .entry)))) ⌝ }
 {
     let mut v = u;
     for k in 0..32 {
@@ -73,7 +73,7 @@ fn with_ranges(u: Unit, words: &[u32]) -> Unit
 
 // The unit that the words are.
 pub fn read_unit(words: &[u32]) -> Unit
-    requires { ⌜ length (now words) ≡ unitWords ⌝ }
+    requires { ⌜ length (now words) ≡ wordsInUnit ⌝ }
     ensures { λ r. ⌜ r ≡ unitOf (now (words .entry)) ⌝ }
 {
     let empty = invalidation::emptied(0);
@@ -88,7 +88,7 @@ pub fn read_unit(words: &[u32]) -> Unit
 // Writes a page entry over the five words lent.
 fn write_page(place: &mut [u32], e: PageEntry)
     requires { ⌜ length (now place) ≡ 5 ⌝ }
-    ensures { λ _. ⌜ now (place .exit) ≡ pageWords e ⌝ }
+    ensures { λ _. ⌜ now (place .exit) ≡ pageEntryWords e ⌝ }
 {
     place[0] = e.valid;
     place[1] = e.space;
@@ -100,7 +100,7 @@ fn write_page(place: &mut [u32], e: PageEntry)
 // Writes a range entry over the six words lent.
 fn write_range(place: &mut [u32], e: RangeEntry)
     requires { ⌜ length (now place) ≡ 6 ⌝ }
-    ensures { λ _. ⌜ now (place .exit) ≡ rangeWords e ⌝ }
+    ensures { λ _. ⌜ now (place .exit) ≡ rangeEntryWords e ⌝ }
 {
     place[0] = e.valid;
     place[1] = e.space;
@@ -113,7 +113,7 @@ fn write_range(place: &mut [u32], e: RangeEntry)
 // Writes the last used entry, the next place and the number of records seen over the three words lent.
 fn write_last(place: &mut [u32], u: Unit)
     requires { ⌜ length (now place) ≡ 3 ⌝ }
-    ensures { λ _. ⌜ now (place .exit) ≡ lastWords u ⌝ }
+    ensures { λ _. ⌜ now (place .exit) ≡ wordsBehindEntries u ⌝ }
 {
     place[0] = u.last;
     place[1] = u.next;
@@ -123,7 +123,7 @@ fn write_last(place: &mut [u32], u: Unit)
 // Writes the page entries over the words lent.
 fn write_pages(words: &mut [u32], u: Unit)
     requires { ⌜ length (now words) ≡ rangesFrom ⌝ }
-    ensures { λ _. ⌜ now (words .exit) ≡ joined pageWords (u .pages) ⌝ }
+    ensures { λ _. ⌜ now (words .exit) ≡ joined pageEntryWords (u .pages) ⌝ }
 {
     for k in 0..64 {
         let e = u.pages[k];
@@ -136,7 +136,7 @@ fn write_pages(words: &mut [u32], u: Unit)
 // Writes the range entries over the words lent.
 fn write_ranges(words: &mut [u32], u: Unit)
     requires { ⌜ length (now words) ≡ 192 ⌝ }
-    ensures { λ _. ⌜ now (words .exit) ≡ joined rangeWords (u .ranges) ⌝ }
+    ensures { λ _. ⌜ now (words .exit) ≡ joined rangeEntryWords (u .ranges) ⌝ }
 {
     for k in 0..32 {
         let e = u.ranges[k];
@@ -148,7 +148,7 @@ fn write_ranges(words: &mut [u32], u: Unit)
 
 // Writes the unit over the words lent, which are that unit then.
 pub fn write_unit(words: &mut [u32], u: Unit)
-    requires { ⌜ length (now words) ≡ unitWords ⌝ }
+    requires { ⌜ length (now words) ≡ wordsInUnit ⌝ }
     ensures { λ _. ⌜ now (words .exit) ≡ wordsOf u ⌝ }
     ensures { λ _. ⌜ unitOf (now (words .exit)) ≡ u ⌝ }
 {

@@ -1,7 +1,7 @@
 // Writes over stretches of lent words.
 ghost use Prim.Native.Nat.{_≤_};
 ghost use lib.ListN.{length};
-ghost use Rattle.words.specs.Writes.{Filled};
+ghost use Rattle.words.specs.Inner.{Filled};
 
 // Sets the words from `from` up to `end` to v.
 pub fn fill(words: &mut [u32], from: usize, end: usize, v: u32)

@@ -5,7 +5,7 @@ use native.Mathlib.Omega.{arith}
 use lib.ListN.{length}
 use Rattle.layout.specs.Tables.{tables}
 use Rattle.trace.specs.Listing.{last}
-use Rattle.trace.specs.Turns.{wantsUnit}
+use Rattle.trace.specs.Inner.{wantsUnit}
 use Rattle.trace.proofs.ListingLaws.{wants-goes}
 use Rattle.coretrace.proofs.RunLaws.{Turning, starts, runs-out, stops-there, turned, units-fresh, units-stay}
 use borrow.Author.Needs.{needs}

@@ -7,8 +7,8 @@ use native.Mathlib.Omega.{arith}
 use Rattle.runs.specs.PageWords.{pagesInSpace}
 use Rattle.words.specs.Counts.{count}
 use Rattle.words.proofs.CountLaws.{count-le}
-use Rattle.tablecheck.specs.Judging.{pageMapped}
-use Rattle.coverage.specs.Measuring.{pageInRange}
+use Rattle.tablecheck.specs.Inner.{pageMapped}
+use Rattle.coverage.specs.Inner.{pageInRange}
 use Rattle.coverage.proofs.CoverageLaws.{at-most-one, count-nothing, mapped-more, in-range-more}
 
 abbrev Inv-loop : tie.InvT-loop

@@ -4,8 +4,8 @@ use Rattle.coverage.proofs.figure.Tie as tie
 use mathlib.Core.Path.{ap₂}
 use Rattle.words.proofs.CountLaws.{count-le}
 use Rattle.layout.specs.Calls.{coverageFigure}
-use Rattle.tablecheck.specs.Judging.{pageMapped}
-use Rattle.coverage.specs.Measuring.{pageInRange}
+use Rattle.tablecheck.specs.Inner.{pageMapped}
+use Rattle.coverage.specs.Inner.{pageInRange}
 use Rattle.coverage.proofs.CoverageLaws.{some-counted}
 
 count-pages-requires : tie.Need-count-pages-requires

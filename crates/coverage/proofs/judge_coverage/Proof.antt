@@ -7,7 +7,7 @@ use borrow.Author.Tests.{not-true, not-false}
 use Rattle.words.specs.Rows.{refusal}
 use Rattle.words.proofs.RefusalLaws.{refused, passed, decided}
 use Rattle.words.proofs.RowLaws.{none-first, stops, refused-then, judged-then}
-use Rattle.refusals.specs.Parts.{shared}
+use Rattle.refusals.specs.Inner.{shared}
 use Rattle.refusals.proofs.VerdictLaws.{shared-order, shared-shown, coverage-parts, any-by}
 
 -- src/lib.rt:33:9

@@ -3,7 +3,7 @@ use Rattle.refusals.proofs.judge_shared.Statement.{statement}
 use Rattle.refusals.proofs.judge_shared.Tie as tie
 use mathlib.Core.Path.{ap, sym, _∙_}
 use Rattle.words.specs.Rows.{refusal}
-use Rattle.refusals.specs.Parts.{ofTables, ofSpan, shared}
+use Rattle.refusals.specs.Inner.{ofTables, ofSpan, shared}
 use Rattle.refusals.proofs.VerdictLaws.{tables-order, tables-shown}
 use Rattle.words.proofs.RowLaws.{none-first, stops, goes-on}
 

@@ -7,7 +7,7 @@ use borrow.Author.Tests.{not-true, not-false, le-ltb, lt-ltb}
 use Rattle.words.specs.Rows.{refusal}
 use Rattle.words.proofs.RefusalLaws.{refused, passed, decided}
 use Rattle.layout.proofs.SoundLaws.{lengths-at}
-use Rattle.refusals.specs.Parts.{ofTables}
+use Rattle.refusals.specs.Inner.{ofTables}
 
 -- src/lib.rt:66:9
 right-lengths-requires : tie.Need-right-lengths-requires

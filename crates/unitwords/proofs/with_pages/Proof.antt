@@ -1,5 +1,5 @@
 use Rattle.unitwords.proofs.EntryLaws.{tabledTo, none-tabled, all-tabled, next-page}
-use Rattle.unitwords.specs.UnitWords.{pageAt}
+use Rattle.unitwords.specs.UnitWords.{pageEntryAt}
 use Rattle.invalidation.specs.Entries.{withPages}
 use Rattle.history.specs.Units.{noPage}
 use lib.ListN.{length, length-map}
@@ -11,7 +11,7 @@ use Rattle.unitwords.proofs.with_pages.Statement.{statement}
 use Rattle.unitwords.proofs.with_pages.Tie as tie
 
 abbrev Inv-loop : tie.InvT-loop
-Inv-loop words v₀ k₀ v k = (k ≤ 64) × ((length (v₀ .pages) ≡ 64) × (v ≡ withPages v₀ (tabledTo (pageAt words) k (v₀ .pages))))
+Inv-loop words v₀ k₀ v k = (k ≤ 64) × ((length (v₀ .pages) ≡ 64) × (v ≡ withPages v₀ (tabledTo (pageEntryAt words) k (v₀ .pages))))
 
 abbrev μ-loop : tie.MeasureT-loop
 μ-loop words v₀ k₀ v k = 64 - k

@@ -1,5 +1,5 @@
 use Rattle.unitwords.proofs.EntryLaws.{tabledTo, none-tabled, all-tabled, next-range}
-use Rattle.unitwords.specs.UnitWords.{rangeAt}
+use Rattle.unitwords.specs.UnitWords.{rangeEntryAt}
 use Rattle.invalidation.specs.Entries.{withRanges}
 use Rattle.history.specs.Units.{noRange}
 use lib.ListN.{length, length-map}
@@ -11,7 +11,7 @@ use Rattle.unitwords.proofs.with_ranges.Statement.{statement}
 use Rattle.unitwords.proofs.with_ranges.Tie as tie
 
 abbrev Inv-loop : tie.InvT-loop
-Inv-loop words v₀ k₀ v k = (k ≤ 32) × ((length (v₀ .ranges) ≡ 32) × (v ≡ withRanges v₀ (tabledTo (rangeAt words) k (v₀ .ranges))))
+Inv-loop words v₀ k₀ v k = (k ≤ 32) × ((length (v₀ .ranges) ≡ 32) × (v ≡ withRanges v₀ (tabledTo (rangeEntryAt words) k (v₀ .ranges))))
 
 abbrev μ-loop : tie.MeasureT-loop
 μ-loop words v₀ k₀ v k = 32 - k

@@ -1,5 +1,5 @@
 use Rattle.unitwords.proofs.EntryLaws.{put-all}
-use Rattle.unitwords.specs.UnitWords.{lastWords}
+use Rattle.unitwords.specs.UnitWords.{wordsBehindEntries}
 use borrow.Author.Needs.{needs}
 use Rattle.unitwords.proofs.write_last.Statement.{statement}
 use Rattle.unitwords.proofs.write_last.Tie as tie
@@ -22,7 +22,7 @@ same-length c = search needs
 
 -- src/lib.rt:111:1
 returns : tie.Need-returns
-returns c = put-all (lastWords (c .args .u)) (c .args .place .now) (c .pre)
+returns c = put-all (wordsBehindEntries (c .args .u)) (c .args .place .now) (c .pre)
 
 pub write-last-spec : {M : Type 1} → statement M
 write-last-spec =

@@ -1,5 +1,5 @@
 use Rattle.unitwords.proofs.EntryLaws.{put-all}
-use Rattle.unitwords.specs.UnitWords.{pageWords}
+use Rattle.unitwords.specs.UnitWords.{pageEntryWords}
 use borrow.Author.Needs.{needs}
 use Rattle.unitwords.proofs.write_page.Statement.{statement}
 use Rattle.unitwords.proofs.write_page.Tie as tie
@@ -30,7 +30,7 @@ same-length c = search needs
 
 -- src/lib.rt:86:1
 returns : tie.Need-returns
-returns c = put-all (pageWords (c .args .e)) (c .args .place .now) (c .pre)
+returns c = put-all (pageEntryWords (c .args .e)) (c .args .place .now) (c .pre)
 
 pub write-page-spec : {M : Type 1} → statement M
 write-page-spec =

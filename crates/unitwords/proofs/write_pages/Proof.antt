@@ -1,5 +1,5 @@
 use Rattle.unitwords.proofs.EntryLaws.{writtenTo, none-written, one-written, all-written}
-use Rattle.unitwords.specs.UnitWords.{pageWords}
+use Rattle.unitwords.specs.UnitWords.{pageEntryWords}
 use Rattle.history.specs.Units.{noPage}
 use lib.ListN.{length, length-map}
 use native.Mathlib.Omega.{arith}
@@ -10,14 +10,14 @@ use Rattle.unitwords.proofs.write_pages.Statement.{statement}
 use Rattle.unitwords.proofs.write_pages.Tie as tie
 
 abbrev Inv-loop : tie.InvT-loop
-Inv-loop words₀ u k₀ words k = (k ≤ 64) × ((length (u .pages) ≡ 64) × ((length words ≡ 320) × (words ≡ writtenTo pageWords 5 k (u .pages) words₀)))
+Inv-loop words₀ u k₀ words k = (k ≤ 64) × ((length (u .pages) ≡ 64) × ((length words ≡ 320) × (words ≡ writtenTo pageEntryWords 5 k (u .pages) words₀)))
 
 abbrev μ-loop : tie.MeasureT-loop
 μ-loop words₀ u k₀ words k = 64 - k
 
 -- src/lib.rt:125:5
 loop-holds : tie.Need-loop-holds Inv-loop μ-loop
-loop-holds c = (omega arith, (rw length-map at (c .before .good .1 .0 .1 .1 .0 .1 .0 .1), (c .before .pre, none-written pageWords 5 (λ x. refl) _ _)))
+loop-holds c = (omega arith, (rw length-map at (c .before .good .1 .0 .1 .1 .0 .1 .0 .1), (c .before .pre, none-written pageEntryWords 5 (λ x. refl) _ _)))
 
 -- src/lib.rt:126:17
 mul-e : tie.Need-mul-e Inv-loop μ-loop
@@ -66,7 +66,7 @@ loop-less c = search needs
 -- src/lib.rt:125:5
 loop-again : tie.Need-loop-again Inv-loop μ-loop
 unfolding noPage
-loop-again c = let k : ℕ = c .before .before .before .before .before .before .loop .k in let i = c .before .before .before .before .before .before .loop .inv in (omega arith, (i .1 .0, (omega arith, one-written pageWords 5 (λ x. refl) _ _ k (5 * k) ((5 * k + 5) - 5 * k) noPage _ _ _ (omega arith) refl (omega arith) (i .1 .1 .1) refl (c .before .before .write-page .ensures))))
+loop-again c = let k : ℕ = c .before .before .before .before .before .before .loop .k in let i = c .before .before .before .before .before .before .loop .inv in (omega arith, (i .1 .0, (omega arith, one-written pageEntryWords 5 (λ x. refl) _ _ k (5 * k) ((5 * k + 5) - 5 * k) noPage _ _ _ (omega arith) refl (omega arith) (i .1 .1 .1) refl (c .before .before .write-page .ensures))))
 
 -- src/lib.rt:121:1
 same-length : tie.Need-same-length Inv-loop μ-loop
@@ -74,7 +74,7 @@ same-length c = search needs
 
 -- src/lib.rt:121:1
 returns : tie.Need-returns Inv-loop μ-loop
-returns c = c .before .loop .inv .1 .1 .1 ∙ all-written pageWords 5 (λ x. refl) _ _ 64 _ (omega arith) (c .before .loop .inv .1 .0) (c .before .before .before .pre)
+returns c = c .before .loop .inv .1 .1 .1 ∙ all-written pageEntryWords 5 (λ x. refl) _ _ 64 _ (omega arith) (c .before .loop .inv .1 .0) (c .before .before .before .pre)
 
 pub write-pages-spec : {M : Type 1} → statement M
 write-pages-spec =

@@ -1,5 +1,5 @@
 use Rattle.unitwords.proofs.EntryLaws.{put-all}
-use Rattle.unitwords.specs.UnitWords.{rangeWords}
+use Rattle.unitwords.specs.UnitWords.{rangeEntryWords}
 use borrow.Author.Needs.{needs}
 use Rattle.unitwords.proofs.write_range.Statement.{statement}
 use Rattle.unitwords.proofs.write_range.Tie as tie
@@ -34,7 +34,7 @@ same-length c = search needs
 
 -- src/lib.rt:98:1
 returns : tie.Need-returns
-returns c = put-all (rangeWords (c .args .e)) (c .args .place .now) (c .pre)
+returns c = put-all (rangeEntryWords (c .args .e)) (c .args .place .now) (c .pre)
 
 pub write-range-spec : {M : Type 1} → statement M
 write-range-spec =

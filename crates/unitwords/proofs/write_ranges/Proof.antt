@@ -1,5 +1,5 @@
 use Rattle.unitwords.proofs.EntryLaws.{writtenTo, none-written, one-written, all-written}
-use Rattle.unitwords.specs.UnitWords.{rangeWords}
+use Rattle.unitwords.specs.UnitWords.{rangeEntryWords}
 use Rattle.history.specs.Units.{noRange}
 use lib.ListN.{length, length-map}
 use native.Mathlib.Omega.{arith}
@@ -10,14 +10,14 @@ use Rattle.unitwords.proofs.write_ranges.Statement.{statement}
 use Rattle.unitwords.proofs.write_ranges.Tie as tie
 
 abbrev Inv-loop : tie.InvT-loop
-Inv-loop words₀ u k₀ words k = (k ≤ 32) × ((length (u .ranges) ≡ 32) × ((length words ≡ 192) × (words ≡ writtenTo rangeWords 6 k (u .ranges) words₀)))
+Inv-loop words₀ u k₀ words k = (k ≤ 32) × ((length (u .ranges) ≡ 32) × ((length words ≡ 192) × (words ≡ writtenTo rangeEntryWords 6 k (u .ranges) words₀)))
 
 abbrev μ-loop : tie.MeasureT-loop
 μ-loop words₀ u k₀ words k = 32 - k
 
 -- src/lib.rt:138:5
 loop-holds : tie.Need-loop-holds Inv-loop μ-loop
-loop-holds c = (omega arith, (rw length-map at (c .before .good .1 .0 .1 .1 .1 .0 .1 .0 .1), (c .before .pre, none-written rangeWords 6 (λ x. refl) _ _)))
+loop-holds c = (omega arith, (rw length-map at (c .before .good .1 .0 .1 .1 .1 .0 .1 .0 .1), (c .before .pre, none-written rangeEntryWords 6 (λ x. refl) _ _)))
 
 -- src/lib.rt:139:17
 mul-e : tie.Need-mul-e Inv-loop μ-loop
@@ -66,7 +66,7 @@ loop-less c = search needs
 -- src/lib.rt:138:5
 loop-again : tie.Need-loop-again Inv-loop μ-loop
 unfolding noRange
-loop-again c = let k : ℕ = c .before .before .before .before .before .before .loop .k in let i = c .before .before .before .before .before .before .loop .inv in (omega arith, (i .1 .0, (omega arith, one-written rangeWords 6 (λ x. refl) _ _ k (6 * k) ((6 * k + 6) - 6 * k) noRange _ _ _ (omega arith) refl (omega arith) (i .1 .1 .1) refl (c .before .before .write-range .ensures))))
+loop-again c = let k : ℕ = c .before .before .before .before .before .before .loop .k in let i = c .before .before .before .before .before .before .loop .inv in (omega arith, (i .1 .0, (omega arith, one-written rangeEntryWords 6 (λ x. refl) _ _ k (6 * k) ((6 * k + 6) - 6 * k) noRange _ _ _ (omega arith) refl (omega arith) (i .1 .1 .1) refl (c .before .before .write-range .ensures))))
 
 -- src/lib.rt:134:1
 same-length : tie.Need-same-length Inv-loop μ-loop
@@ -74,7 +74,7 @@ same-length c = search needs
 
 -- src/lib.rt:134:1
 returns : tie.Need-returns Inv-loop μ-loop
-returns c = c .before .loop .inv .1 .1 .1 ∙ all-written rangeWords 6 (λ x. refl) _ _ 32 _ (omega arith) (c .before .loop .inv .1 .0) (c .before .before .before .pre)
+returns c = c .before .loop .inv .1 .1 .1 ∙ all-written rangeEntryWords 6 (λ x. refl) _ _ 32 _ (omega arith) (c .before .loop .inv .1 .0) (c .before .before .before .pre)
 
 pub write-ranges-spec : {M : Type 1} → statement M
 write-ranges-spec =

@@ -2,7 +2,7 @@ use mathlib.Core.Path.{sym, subst, _∙_}
 use mathlib.Core.Logic.{⊎-elim}
 use Prim.Native.Nat.{_-_}
 use native.Mathlib.Omega.{arith}
-use Rattle.words.specs.Writes.{PassTo}
+use Rattle.words.specs.Inner.{PassTo}
 use Rattle.words.proofs.SearchLaws.{all-stop, all-end}
 use Rattle.words.proofs.ScanLaws.{pass-none, pass-one, pass-rest}
 use Rattle.blocks.specs.FrameWords.{freeIn}

@@ -2,7 +2,7 @@ use mathlib.Core.Path.{sym, _∙_}
 use Prim.Native.Nat.{_-_}
 use native.Mathlib.Omega.{arith}
 use borrow.Author.Tests.{not-false}
-use Rattle.words.specs.Writes.{PassTo}
+use Rattle.words.specs.Inner.{PassTo}
 use Rattle.words.proofs.ScanLaws.{pass-none, pass-chunk}
 use Rattle.blocks.specs.FrameWords.{freeIn}
 use Rattle.blocks.specs.Inner.Passes.{sought}

@@ -1,5 +1,5 @@
 use borrow.Author.Needs.{needs}
-use Rattle.words.specs.Writes.{CountedUp}
+use Rattle.words.specs.Inner.{CountedUp}
 use Rattle.words.proofs.WriteLaws.{change-none, change-more}
 use Rattle.framewords.proofs.buffer.count_up.Statement.{statement}
 use Rattle.framewords.proofs.buffer.count_up.Tie as tie

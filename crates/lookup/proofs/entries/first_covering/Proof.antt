@@ -5,7 +5,7 @@ use mathlib.Core.Bool.{false}
 use Prim.Native.Nat.{ℕ, _≤_, _<_, _-_}
 use native.Mathlib.Omega.{arith}
 use lib.ListN.{length, length-map}
-use Rattle.lookup.specs.Places.{rangeCovers}
+use Rattle.lookup.specs.Inner.{rangeCovers}
 use mathlib.Core.Path.{_≡_, sym, _∙_}
 use Rattle.lookup.proofs.FindingLaws.{range-read, first-covers, none-covers, none-yet}
 

@@ -2,7 +2,7 @@ use mathlib.Core.Path.{_≡_, refl}
 use Prim.Native.Nat.{_≤_, _-_, zero-le}
 use native.Mathlib.Omega.{arith}
 use lib.ListN.{length, length-set}
-use Rattle.runs.specs.Steps.{Marked}
+use Rattle.runs.specs.Inner.{Marked}
 use Rattle.runs.proofs.RenewLaws.{mark-none, mark-more}
 use borrow.Author.Needs.{needs}
 use Rattle.ranges.proofs.renew.mark.Statement.{statement}

@@ -1,7 +1,7 @@
 use mathlib.Core.Path.{refl, sym, _∙_}
 use native.Mathlib.Omega.{arith}
 use borrow.Author.Tests.{not-false}
-use Rattle.runs.specs.Steps.{onward}
+use Rattle.runs.specs.Inner.{onward}
 use Rattle.runs.proofs.WordLaws.{mapped-lt}
 use Rattle.runs.proofs.StepLaws.{along-nowhere, along-empty}
 use borrow.Author.Needs.{needs}

@@ -6,7 +6,7 @@ use mathlib.Core.Bool.{not}
 use borrow.Author.Tests.{not-true, not-false, le-ltb, lt-ltb}
 use Rattle.words.specs.Rows.{refusal}
 use Rattle.words.proofs.RefusalLaws.{refused, passed, decided}
-use Rattle.refusals.specs.Parts.{ofSpan}
+use Rattle.refusals.specs.Inner.{ofSpan}
 use Rattle.layout.proofs.CallLaws.{open-by}
 use Rattle.refusals.proofs.VerdictLaws.{rights-pass, rights-fail}
 

@@ -7,7 +7,7 @@ use native.Mathlib.Omega.{arith}
 use lib.Pow.{pow-pos}
 use Rattle.blocks.specs.Inner.Around.{startOf}
 use Rattle.blocks.specs.FrameWords.{freeIn}
-use Rattle.blocks.specs.Taking.{Clear}
+use Rattle.blocks.specs.Inner.Taking.{Clear}
 use Rattle.blocks.proofs.AroundLaws.{order-size}
 use Rattle.blocks.proofs.WordLaws.{lawful-is}
 use Rattle.blocks.proofs.SearchedLaws.{None, none-zero, least-is, tried-small, scan-start, passed, skipped, chosen, chosen-none}

@@ -7,7 +7,7 @@ use native.Mathlib.Omega.{arith}
 use borrow.Author.Tests.{not-true, not-false}
 use Rattle.words.specs.Searches.{allFrom}
 use Rattle.words.proofs.SearchLaws.{all-start, all-step, all-stop, all-end}
-use Rattle.tablecheck.specs.Judging.{pageMapped}
+use Rattle.tablecheck.specs.Inner.{pageMapped}
 use Rattle.tablecheck.proofs.SpanLaws.{page-mapped}
 
 abbrev Inv-loop : tie.InvT-loop

@@ -6,7 +6,7 @@ use Prim.Native.Nat.{_+_, _≤_, _-_}
 use native.Mathlib.Omega.{arith}
 use Rattle.words.specs.Searches.{anyFrom}
 use Rattle.words.proofs.SearchLaws.{any-start, any-step, any-stop, any-end}
-use Rattle.tablecheck.specs.Judging.{pageMapped}
+use Rattle.tablecheck.specs.Inner.{pageMapped}
 use Rattle.tablecheck.proofs.SpanLaws.{page-mapped}
 
 abbrev Inv-loop : tie.InvT-loop

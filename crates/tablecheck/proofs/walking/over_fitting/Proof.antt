@@ -1,7 +1,7 @@
 use Rattle.tablecheck.proofs.WalkingLaws.{named-none}
 use Rattle.runs.proofs.StepLaws.{along-none}
 use Rattle.runs.proofs.WordLaws.{mapped-lt}
-use Rattle.runs.specs.Steps.{onward}
+use Rattle.runs.specs.Inner.{onward}
 use borrow.Author.Tests.{not-true, not-false}
 use native.Mathlib.Omega.{arith}
 use mathlib.Core.Path.{refl, sym, _∙_}

@@ -10,7 +10,7 @@ use Rattle.words.proofs.SearchLaws.{all-stop, all-end}
 use Rattle.words.proofs.CountLaws.{count-le}
 use Rattle.runs.proofs.StepLaws.{run-le, along-room}
 use Rattle.runs.proofs.CheckLaws.{Checking, check-start, check-room, check-step, check-along, end-room, end-holds, word-holds, check-end, refuted}
-use Rattle.tablecheck.specs.Judging.{pageMapped, pageFits}
+use Rattle.tablecheck.specs.Inner.{pageMapped, pageFits}
 use Rattle.tablecheck.proofs.WalkingLaws.{fits-start, part-unlawful, part-wrong, part-lawful, fits-turn, count-start, count-turn, one-small}
 use borrow.Author.Needs.{needs}
 use Rattle.tablecheck.proofs.walking.walk_space.Statement.{statement}

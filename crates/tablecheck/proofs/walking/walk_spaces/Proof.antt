@@ -11,7 +11,7 @@ use Rattle.words.proofs.Cases.{true-false}
 use Rattle.words.proofs.SearchLaws.{all-step, all-stop, all-end}
 use Rattle.words.proofs.CountLaws.{count-le}
 use Rattle.layout.specs.Tables.{spacePages}
-use Rattle.tablecheck.specs.Judging.{pageMapped, spaceSound}
+use Rattle.tablecheck.specs.Inner.{pageMapped, spaceSound}
 use Rattle.tablecheck.proofs.WalkingLaws.{count-start, count-space, space-lent, count-lent}
 
 abbrev Inv-loop : tie.InvT-loop

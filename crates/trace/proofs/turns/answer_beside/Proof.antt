@@ -1,5 +1,5 @@
 use mathlib.Core.Path.{ap, sym, _∙_}
-use Rattle.trace.specs.Turns.{wantsUnit}
+use Rattle.trace.specs.Inner.{wantsUnit}
 use Rattle.trace.proofs.ListingLaws.{came-end, came-cut, came-taken}
 use borrow.Author.Needs.{needs}
 use Rattle.trace.proofs.turns.answer_beside.Statement.{statement}

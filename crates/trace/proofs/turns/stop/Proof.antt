@@ -1,7 +1,7 @@
 use mathlib.Core.Path.{ap}
 use mathlib.Core.Bool.{false}
 use Rattle.words.specs.declared.Outcome.{Outcome}
-use Rattle.trace.specs.Turns.{stopped}
+use Rattle.trace.specs.Inner.{stopped}
 use borrow.Author.Needs.{needs}
 use Rattle.trace.proofs.turns.stop.Statement.{statement}
 use Rattle.trace.proofs.turns.stop.Tie as tie

@@ -1,5 +1,5 @@
 use mathlib.Core.Path.{ap, sym, _∙_}
-use Rattle.trace.specs.Turns.{wantsUnit}
+use Rattle.trace.specs.Inner.{wantsUnit}
 use borrow.Author.Needs.{needs}
 use Rattle.trace.proofs.turns.wants_unit.Statement.{statement}
 use Rattle.trace.proofs.turns.wants_unit.Tie as tie

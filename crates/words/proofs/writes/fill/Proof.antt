@@ -1,5 +1,5 @@
 use borrow.Author.Needs.{needs}
-use Rattle.words.specs.Writes.{Filled}
+use Rattle.words.specs.Inner.{Filled}
 use Rattle.words.proofs.WriteLaws.{change-none, change-more}
 use Rattle.words.proofs.writes.fill.Statement.{statement}
 use Rattle.words.proofs.writes.fill.Tie as tie

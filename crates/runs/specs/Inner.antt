@@ -7,7 +7,7 @@ use lib.Dec.{leb}
 use lib.ListN.{length, getD, take, replicate}
 use lib.Seq.{sets}
 use Rattle.words.specs.Tables.{part}
-use Rattle.words.specs.Writes.{ChangedTo}
+use Rattle.words.specs.Inner.{ChangedTo}
 use Rattle.runs.specs.PageWords.{pagesInSpace, rightsFactor, mapped, rangeBit, frameIn, isPageWord}
 use Rattle.runs.specs.Runs.{smallestRange, wordsInTableEntry}
 use Rattle.runs.specs.Walk.{bitWord, entryOf, ended}
