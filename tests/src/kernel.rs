@@ -32,6 +32,10 @@ pub const TRANSLATE: u32 = 7;
 pub const COVERAGE: u32 = 8;
 pub const SET_UP_UNIT: u32 = 9;
 
+// words of the control buffer, and where its removal records begin
+pub const CONTROL: usize = 195;
+pub const RECORDS: usize = 3;
+
 pub const UNIT: usize = 515;
 pub const LAST: usize = 512;
 pub const NEXT: usize = 513;
@@ -40,7 +44,7 @@ pub const SEEN: usize = 514;
 impl World {
     pub fn zeroed() -> World {
         World {
-            control: vec![0; 195],
+            control: vec![0; CONTROL],
             frames: vec![0; 4096],
             pages: vec![0; 4096],
             ranges: vec![0; 2048],

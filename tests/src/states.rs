@@ -72,7 +72,7 @@ fn damage_words(r: &mut Random, w: &mut World) -> String {
             "scratch"
         }
         _ => {
-            let to = r.pick(&[0, n - 1, n + 1, 515, 195]);
+            let to = r.pick(&[0, n - 1, n + 1, UNIT, CONTROL]);
             buffer.resize(if to == n { n + 1 } else { to }, 0);
             "length"
         }
@@ -82,15 +82,15 @@ fn damage_words(r: &mut Random, w: &mut World) -> String {
 
 /// A single field of the unit, or of the removal log, is set to something of interest.
 fn damage_field(r: &mut Random, w: &mut World) -> String {
-    if w.control.len() != 195 {
+    if w.control.len() != CONTROL {
         return "length_control".to_string();
     }
     let what = match r.below(10) {
         0 | 1 => {
             w.control[1] = u32::MAX - r.below(3) as u32;
             for j in 0..64 {
-                if w.control[5 + 3 * j] == 0 {
-                    w.control[5 + 3 * j] = 1;
+                if w.control[RECORDS + 3 * j + 2] == 0 {
+                    w.control[RECORDS + 3 * j + 2] = 1;
                 }
             }
             if r.one_in(2) {
