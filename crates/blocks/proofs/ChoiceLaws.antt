@@ -14,7 +14,7 @@ use lib.Pow.{pow-pos}
 use borrow.Author.Tests.{leb-true, le-leb}
 use Rattle.words.specs.Tables.{tabFrom}
 use Rattle.words.specs.Counts.{count, one-if}
-use Rattle.words.specs.Searches.{largest, firstFrom, is-some}
+use Rattle.words.specs.Searches.{largest, is-some}
 use Rattle.words.proofs.Cases.{by-dec, true-false, and-true, true-and}
 use Rattle.words.proofs.TableLaws.{length-tabFrom, getD-tabFrom}
 use Rattle.words.proofs.CountLaws.{count-or, count-range, count-some}

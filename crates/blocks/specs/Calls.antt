@@ -2,7 +2,6 @@
 -- The pool takes over 01's numbers where they speak of frames: 1 a length differs; 2 the words are unlawful for F, judged where F is a pool size; 4 F is no pool size;
 -- 8 no owner is asked for, or one outside 1 to 4,096 (a span may run across spaces: that is for the tables above); 11 an owner asked for already holds a frame; 12 an owner to free holds none;
 -- 14 fewer than n frames are free.
-use mathlib.Core.Path.{_≡_}
 use mathlib.Core.Bool.{Bool, _&&_, not}
 use mathlib.Core.List.{List, [], _∷_}
 use Prim.Native.Nat.{ℕ, _+_, _-_}
