@@ -5,12 +5,25 @@ ghost use lib.ListN.{length};
 ghost use Rattle.words.specs.Tables.{tabulate};
 ghost use Rattle.history.specs.Units.{rangeEntries, pageEntries};
 ghost use Rattle.invalidation.specs.Entries.{withPages, withRanges};
-ghost use Rattle.unitwords.specs.UnitWords.{wordsInUnit, rangesFrom, pageEntryAt, rangeEntryAt, unitOf, pageEntryWords, rangeEntryWords, wordsBehindEntries, joined, wordsOf};
+ghost use Rattle.unitwords.specs.UnitWords.{wordsInUnit, wordsInPageEntry, wordsInRangeEntry, rangesFrom, pageEntryAt, rangeEntryAt, unitOf, pageEntryWords, rangeEntryWords, wordsBehindEntries, joined, wordsOf};
 use history::PageEntry;
 use history::RangeEntry;
 use history::Unit;
 
+// 64 page entries of five words, 32 range entries of six, and three words.
 pub const UNIT_WORDS: usize = 515;
+
+const PAGE_ENTRY_WORDS: usize = 5;
+
+const RANGE_ENTRY_WORDS: usize = 6;
+
+const RANGES_FROM: usize = 320;
+
+const LAST_AT: usize = 512;
+
+const NEXT_AT: usize = 513;
+
+const SEEN_AT: usize = 514;
 
 // Page entry k.
 fn page_at(words: &[u32], k: usize) -> PageEntry
@@ -18,7 +31,7 @@ fn page_at(words: &[u32], k: usize) -> PageEntry
     requires { ⌜ k < pageEntries ⌝ }
     ensures { λ r. ⌜ r ≡ pageEntryAt (now (words .entry)) k ⌝ }
 {
-    let at = 5 * k;
+    let at = PAGE_ENTRY_WORDS * k;
     PageEntry {
         valid: words[at],
         space: words[at + 1],
@@ -34,7 +47,7 @@ fn range_at(words: &[u32], k: usize) -> RangeEntry
     requires { ⌜ k < rangeEntries ⌝ }
     ensures { λ r. ⌜ r ≡ rangeEntryAt (now (words .entry)) k ⌝ }
 {
-    let at = 320 + 6 * k;
+    let at = RANGES_FROM + RANGE_ENTRY_WORDS * k;
     RangeEntry {
         valid: words[at],
         space: words[at + 1],
@@ -79,15 +92,15 @@ pub fn read_unit(words: &[u32]) -> Unit
     let empty = invalidation::emptied(0);
     let paged = with_pages(empty, words);
     let mut u = with_ranges(paged, words);
-    u.last = words[512];
-    u.next = words[513];
-    u.seen = words[514];
+    u.last = words[LAST_AT];
+    u.next = words[NEXT_AT];
+    u.seen = words[SEEN_AT];
     u
 }
 
 // Writes a page entry over the five words lent.
 fn write_page(place: &mut [u32], e: PageEntry)
-    requires { ⌜ length (now place) ≡ 5 ⌝ }
+    requires { ⌜ length (now place) ≡ wordsInPageEntry ⌝ }
     ensures { λ _. ⌜ now (place .exit) ≡ pageEntryWords e ⌝ }
 {
     place[0] = e.valid;
@@ -99,7 +112,7 @@ fn write_page(place: &mut [u32], e: PageEntry)
 
 // Writes a range entry over the six words lent.
 fn write_range(place: &mut [u32], e: RangeEntry)
-    requires { ⌜ length (now place) ≡ 6 ⌝ }
+    requires { ⌜ length (now place) ≡ wordsInRangeEntry ⌝ }
     ensures { λ _. ⌜ now (place .exit) ≡ rangeEntryWords e ⌝ }
 {
     place[0] = e.valid;
@@ -127,8 +140,8 @@ fn write_pages(words: &mut [u32], u: Unit)
 {
     for k in 0..64 {
         let e = u.pages[k];
-        let a = 5 * k;
-        let z = a + 5;
+        let a = PAGE_ENTRY_WORDS * k;
+        let z = a + PAGE_ENTRY_WORDS;
         write_page(&mut words[a..z], e);
     }
 }
@@ -140,8 +153,8 @@ fn write_ranges(words: &mut [u32], u: Unit)
 {
     for k in 0..32 {
         let e = u.ranges[k];
-        let a = 6 * k;
-        let z = a + 6;
+        let a = RANGE_ENTRY_WORDS * k;
+        let z = a + RANGE_ENTRY_WORDS;
         write_range(&mut words[a..z], e);
     }
 }
@@ -152,7 +165,7 @@ pub fn write_unit(words: &mut [u32], u: Unit)
     ensures { λ _. ⌜ now (words .exit) ≡ wordsOf u ⌝ }
     ensures { λ _. ⌜ unitOf (now (words .exit)) ≡ u ⌝ }
 {
-    write_pages(&mut words[0..320], u);
-    write_ranges(&mut words[320..512], u);
-    write_last(&mut words[512..515], u);
+    write_pages(&mut words[0..RANGES_FROM], u);
+    write_ranges(&mut words[RANGES_FROM..LAST_AT], u);
+    write_last(&mut words[LAST_AT..UNIT_WORDS], u);
 }
