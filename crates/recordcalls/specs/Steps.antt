@@ -10,7 +10,7 @@ use Rattle.history.specs.declared.Call.{Call}
 use Rattle.history.specs.Units.{freshUnit}
 use Rattle.history.specs.Lists.{Does, takesUnit}
 use Rattle.records.specs.declared.Meaning.{Meaning}
-use Rattle.records.specs.declared.Meaning.the-variants.{Malformed, Asked}
+use Rattle.records.specs.declared.Meaning.the-variants.{Malformed, Asks}
 use Rattle.recordcalls.specs.declared.TwoUnits.{TwoUnits}
 use Rattle.recordcalls.specs.declared.Step.{Step}
 use Rattle.recordcalls.specs.declared.Shown.{Shown}
@@ -37,12 +37,12 @@ answered k n p o u = record { kind = k; outcome = o; units = renewed k o (withUn
 -- "16 malformed record; it makes no call"; any other makes its call, on its unit
 pub data RecordTaken (T : Tables) (p : TwoUnits) : Meaning → Step → Tables → Type 0 where
   skipped : {k : ℕ} → RecordTaken T p (Malformed k) (record { kind = k; outcome = refusal 16; units = p }) T
-  made : {k n : ℕ} {c : Call} {o : Outcome} {u : TlbUnit} {T′ : Tables} → Does true T (unitAt p n) o c T′ u → RecordTaken T p (Asked k n c) (answered k n p o u) T′
+  made : {k n : ℕ} {c : Call} {o : Outcome} {u : TlbUnit} {T′ : Tables} → Does true T (unitAt p n) o c T′ u → RecordTaken T p (Asks k n c) (answered k n p o u) T′
 
 -- whether a record asks for a call that is lent a unit; a malformed one makes no call
 unfoldable pub needsUnit : Meaning → Bool
 needsUnit (Malformed k) = false
-needsUnit (Asked k n c) = takesUnit c
+needsUnit (Asks k n c) = takesUnit c
 
 -- a record taken beside the units: whatever they are, they stay or become fresh, so it is taken without them
 pub record TakenBeside (T : Tables) (m : Meaning) (r : Shown) (T′ : Tables) : Type 0 where

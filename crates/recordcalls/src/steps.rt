@@ -6,7 +6,7 @@ ghost use Rattle.words.specs.Rows.{refusal, accepted};
 ghost use Rattle.layout.specs.Answers.{outcome};
 ghost use Rattle.layout.specs.Tables.{tables};
 ghost use Rattle.history.specs.Lists.{takesUnit};
-ghost use Rattle.records.specs.declared.Meaning.the-variants.{Asked};
+ghost use Rattle.records.specs.declared.Meaning.the-variants.{Asks};
 ghost use Rattle.recordcalls.specs.Steps.{freshUnits, unitAt, withUnitAt, RecordTaken, needsUnit, TakenBeside};
 use crate::Shown;
 use crate::Step;
@@ -85,7 +85,7 @@ fn on_unit(
     pages: &mut [u32],
     ranges: &mut [u32],
 ) -> Step
-    ensures { λ r. ⌜ RecordTaken (tables (now (control .entry)) (now (frames .entry)) (now (pages .entry)) (now (ranges .entry))) p (Asked kind n call) r (tables (now (control .exit)) (now (frames .exit)) (now (pages .exit)) (now (ranges .exit))) ⌝ }
+    ensures { λ r. ⌜ RecordTaken (tables (now (control .entry)) (now (frames .entry)) (now (pages .entry)) (now (ranges .entry))) p (Asks kind n call) r (tables (now (control .exit)) (now (frames .exit)) (now (pages .exit)) (now (ranges .exit))) ⌝ }
 {
     let t = units::perform(call, unit_at(p, n), control, frames, pages, ranges);
     let a = t.answer;
@@ -120,7 +120,7 @@ pub fn needs_unit(m: Meaning) -> bool
 {
     match m {
         Meaning::Malformed(_) => false,
-        Meaning::Asked { call, .. } => takes_unit(call),
+        Meaning::Asks { call, .. } => takes_unit(call),
     }
 }
 
@@ -141,7 +141,7 @@ pub fn take(
             outcome: malformed(),
             units: p,
         },
-        Meaning::Asked { kind, unit, call } => on_unit(
+        Meaning::Asks { kind, unit, call } => on_unit(
             kind,
             unit,
             call,
@@ -171,7 +171,7 @@ pub fn take_beside(
             outcome: malformed(),
             renews: false,
         },
-        Meaning::Asked { kind, call, .. } => match call {
+        Meaning::Asks { kind, call, .. } => match call {
             Call::OnTables(c) => {
                 let a = units::on_tables(c, control, frames, pages, ranges);
                 Shown {

@@ -8,7 +8,7 @@ use lib.Dec.{eqb, ltb}
 use borrow.Author.Tests.{lt-ltb, le-ltb, eq-eqb, ne-eqb}
 use Rattle.words.proofs.RefusalLaws.{refused, passed, decided}
 use Rattle.history.specs.declared.Call.{Call}
-use Rattle.records.specs.declared.Meaning.the-variants.{Malformed, Asked}
+use Rattle.records.specs.declared.Meaning.the-variants.{Malformed, Asks}
 use Rattle.records.specs.Records.{wordAt, kindOf, recordLength, unitBy, callBy, tooShort, unknownKind, wrongRecordLength, noSuchUnit, meaning}
 
 pub word-is : (b : List ℕ) (i low high r : ℕ) → r ≡ low + 256 * high → low ≡ getD b i 0 → high ≡ getD b (i + 1) 0 → r ≡ wordAt b i
@@ -57,10 +57,10 @@ module _ (b : List ℕ) where
               ap Malformed e
               ∙ sym (passed _ _ _ _ (le-ltb _ _ long) ∙ passed _ _ _ _ known ∙ passed _ _ _ _ (ap not exactly) ∙ refused _ _ _ _ (lt-ltb _ _ (subst (λ (x : ℕ). 1 < x) unit-is h)))
 
-          pub asked : u ≤ 1 → (d : Call) → d ≡ callBy k b → Asked k u d ≡ meaning b
+          pub asked : u ≤ 1 → (d : Call) → d ≡ callBy k b → Asks k u d ≡ meaning b
           unfolding meaning tooShort unknownKind wrongRecordLength noSuchUnit
           asked h d is-call =
-              ap (λ (x : ℕ). Asked x u d) e
-              ∙ ap (λ (x : ℕ). Asked (kindOf b) x d) unit-is
-              ∙ ap (Asked (kindOf b) (unitBy (kindOf b) b)) (is-call ∙ ap (λ (x : ℕ). callBy x b) e)
+              ap (λ (x : ℕ). Asks x u d) e
+              ∙ ap (λ (x : ℕ). Asks (kindOf b) x d) unit-is
+              ∙ ap (Asks (kindOf b) (unitBy (kindOf b) b)) (is-call ∙ ap (λ (x : ℕ). callBy x b) e)
               ∙ sym (passed _ _ _ _ (le-ltb _ _ long) ∙ passed _ _ _ _ known ∙ passed _ _ _ _ (ap not exactly) ∙ passed _ _ _ _ (le-ltb _ _ (subst (λ (x : ℕ). x ≤ 1) unit-is h)) ∙ decided _)

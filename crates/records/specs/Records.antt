@@ -10,7 +10,7 @@ use Rattle.history.specs.declared.Call.the-variants.{OnTables, OnUnit}
 use Rattle.history.specs.declared.UnitCall.the-variants.{Translate}
 use Rattle.layout.specs.declared.TableCall.the-variants.{SetUpPool, Open, Close, Map, Unmap, Protect, Coverage}
 use Rattle.records.specs.declared.Meaning.{Meaning}
-use Rattle.records.specs.declared.Meaning.the-variants.{Malformed, Asked}
+use Rattle.records.specs.declared.Meaning.the-variants.{Malformed, Asks}
 
 -- the little-endian word at place i
 unfoldable pub wordAt : List ℕ → ℕ → ℕ
@@ -64,4 +64,4 @@ noSuchUnit b = record { when = ltb 1 (unitBy (kindOf b) b); answer = Malformed (
 
 -- what a record asks for
 unfoldable pub meaning : List ℕ → Meaning
-meaning b = decide (tooShort b ∷ unknownKind b ∷ wrongRecordLength b ∷ noSuchUnit b ∷ []) (Asked (kindOf b) (unitBy (kindOf b) b) (callBy (kindOf b) b))
+meaning b = decide (tooShort b ∷ unknownKind b ∷ wrongRecordLength b ∷ noSuchUnit b ∷ []) (Asks (kindOf b) (unitBy (kindOf b) b) (callBy (kindOf b) b))

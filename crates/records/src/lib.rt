@@ -17,7 +17,7 @@ pub const LONGEST_LINE: usize = 105;
 // What a record asks for: nothing where it is malformed, with the kind to be shown; else a call, on unit 0 or 1 (0 where the call takes none).
 pub enum Meaning {
     Malformed(u32),
-    Asked { kind: u32, unit: u32, call: Call },
+    Asks { kind: u32, unit: u32, call: Call },
 }
 
 // The bytes that are read and not yet taken: those of the buffer from `from` up to `to`.

@@ -128,7 +128,7 @@ pub fn read_record(bytes: &[u8]) -> Meaning
     if 1 < unit {
         return Meaning::Malformed(kind);
     }
-    Meaning::Asked {
+    Meaning::Asks {
         kind,
         unit,
         call: call_by(kind, bytes),
