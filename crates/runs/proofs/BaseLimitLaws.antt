@@ -9,10 +9,6 @@ use Rattle.runs.specs.Walk.{entryOf}
 use Rattle.runs.proofs.OffsetLaws.{offset-back}
 
 module _ (b n v : ℕ) where
-  pub base-is : getD (entryOf b n v) 0 0 ≡ b - n
-  unfolding entryOf
-  base-is = refl
-
   -- "LIMIT is not covered": it is the page after the run
   pub limit-is : getD (entryOf b n v) 1 0 ≡ b
   unfolding entryOf
