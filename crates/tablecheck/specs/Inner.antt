@@ -1,6 +1,6 @@
 -- What the steps of the judgement decide.
 use mathlib.Core.Path.{_≡_}
-use mathlib.Core.Bool.{Bool, _&&_, _||_, not}
+use mathlib.Core.Bool.{Bool, Bool·beq, _&&_, _||_, not}
 use mathlib.Core.List.{List}
 use Prim.Native.Nat.{ℕ, _+_, _*_, _<_}
 use lib.ListN.{getD}
@@ -14,6 +14,10 @@ use Rattle.layout.specs.Tables.{spacePages, spaceRanges}
 -- page p is mapped, by a space's words
 unfoldable pub pageMapped : List ℕ → ℕ → Bool
 pageMapped ws p = mapped (getD ws p 0)
+
+-- page p is mapped, or where v is false, unmapped
+abbrev pub mappedIs : List ℕ → Bool → ℕ → Bool
+mappedIs ws v p = Bool·beq (pageMapped ws p) v
 
 -- page word w at place i of the page buffer: mapped in an open space only, and then the word of its frame names place i
 unfoldable pub pageFits : Bool → List ℕ → ℕ → ℕ → ℕ → Bool

@@ -5,7 +5,7 @@ ghost use lib.ListN.{length};
 ghost use Rattle.runs.specs.PageWords.{pagesInSpace};
 ghost use Rattle.words.specs.Searches.{allFrom, anyFrom};
 ghost use Rattle.layout.specs.Calls.{isSpan};
-ghost use Rattle.tablecheck.specs.Inner.{pageMapped};
+ghost use Rattle.tablecheck.specs.Inner.{pageMapped, mappedIs};
 use ranges::page_words::mapped;
 use runs::PAGES;
 
@@ -22,21 +22,30 @@ pub fn is_span(first: u32, count: u32) -> bool
     first <= PAGES - count
 }
 
+// Whether every page of the span is mapped, or where `v` is false, none.
+fn all_are(part: &[u32], first: u32, count: u32, v: bool) -> bool
+    requires { ⌜ length (now part) ≡ pagesInSpace ⌝ }
+    requires { ⌜ first + count ≤ pagesInSpace ⌝ }
+    ensures { λ r. ⌜ r ≡ allFrom count first (mappedIs (now (part .entry)) v) ⌝ }
+{
+    let end = first + count;
+    let mut p = first;
+    while p < end {
+        if mapped(part[p as usize]) != v {
+            return false;
+        }
+        p += 1;
+    }
+    true
+}
+
 // Whether a page of the span is mapped.
 pub fn any_mapped(part: &[u32], first: u32, count: u32) -> bool
     requires { ⌜ length (now part) ≡ pagesInSpace ⌝ }
     requires { ⌜ first + count ≤ pagesInSpace ⌝ }
     ensures { λ r. ⌜ r ≡ anyFrom count first (pageMapped (now (part .entry))) ⌝ }
 {
-    let end = first + count;
-    let mut p = first;
-    while p < end {
-        if mapped(part[p as usize]) {
-            return true;
-        }
-        p += 1;
-    }
-    false
+    !all_are(part, first, count, false)
 }
 
 // Whether every page of the span is mapped.
@@ -45,13 +54,5 @@ pub fn all_mapped(part: &[u32], first: u32, count: u32) -> bool
     requires { ⌜ first + count ≤ pagesInSpace ⌝ }
     ensures { λ r. ⌜ r ≡ allFrom count first (pageMapped (now (part .entry))) ⌝ }
 {
-    let end = first + count;
-    let mut p = first;
-    while p < end {
-        if !mapped(part[p as usize]) {
-            return false;
-        }
-        p += 1;
-    }
-    true
+    all_are(part, first, count, true)
 }

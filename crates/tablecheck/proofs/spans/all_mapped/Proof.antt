@@ -1,79 +1,16 @@
 use borrow.Author.Needs.{needs}
 use Rattle.tablecheck.proofs.spans.all_mapped.Statement.{statement}
 use Rattle.tablecheck.proofs.spans.all_mapped.Tie as tie
-use mathlib.Core.Path.{_≡_, refl, sym, _∙_}
-use Prim.Native.Nat.{_+_, _≤_, _-_}
-use native.Mathlib.Omega.{arith}
-use borrow.Author.Tests.{not-true, not-false}
-use Rattle.words.specs.Searches.{allFrom}
-use Rattle.words.proofs.SearchLaws.{all-start, all-step, all-stop, all-end}
-use Rattle.tablecheck.specs.Inner.{pageMapped}
-use Rattle.tablecheck.proofs.SpanLaws.{page-mapped}
+use mathlib.Core.Path.{_∙_}
+use Rattle.tablecheck.proofs.SpanLaws.{all-are}
 
-abbrev Inv-loop : tie.InvT-loop
-Inv-loop part first count end p₀ p = (end ≡ first + count) × ((p ≤ end) × (allFrom count first (pageMapped part) ≡ allFrom (end - p) p (pageMapped part)))
+-- src/spans.rt:57:5
+all-are-requires : tie.Need-all-are-requires
+all-are-requires c κs = search needs
 
-abbrev μ-loop : tie.MeasureT-loop
-μ-loop part first count end p₀ p = end - p
-
--- src/spans.rt:49:15
-add-end : tie.Need-add-end Inv-loop μ-loop
-add-end c = search needs
-
--- src/spans.rt:51:5
-loop-holds : tie.Need-loop-holds Inv-loop μ-loop
-loop-holds c = (refl, (omega arith, all-start _ _ _ _ refl))
-
--- src/spans.rt:52:25
-cast-mapped : tie.Need-cast-mapped Inv-loop μ-loop
-cast-mapped c = search needs
-
--- src/spans.rt:52:20
-mul-mapped : tie.Need-mul-mapped Inv-loop μ-loop
-mul-mapped c = search needs
-
--- src/spans.rt:52:20
-shared-slice-read-mapped : tie.Need-shared-slice-read-mapped Inv-loop μ-loop
-shared-slice-read-mapped c = search needs
-
--- src/spans.rt:52:13
-mapped-requires : tie.Need-mapped-requires Inv-loop μ-loop
-mapped-requires c κs = search needs
-
--- src/spans.rt:53:13
-returns : tie.Need-returns Inv-loop μ-loop
-returns c = all-stop _ _ _ (c .before .before .before .loop-test .taken) (sym (page-mapped _ _ _ (c .before .mapped .ensures)) ∙ not-true _ (c .if1 .taken)) ∙ sym (c .before .before .before .before .loop .inv .1 .1)
-
--- src/spans.rt:55:9
-add-p : tie.Need-add-p Inv-loop μ-loop
-add-p c = search needs
-
--- src/spans.rt:51:5
-loop-less : tie.Need-loop-less Inv-loop μ-loop
-loop-less c = search needs
-
--- src/spans.rt:51:5
-loop-again : tie.Need-loop-again Inv-loop μ-loop
-loop-again c = (c .before .before .before .before .loop .inv .0, (omega arith, c .before .before .before .before .loop .inv .1 .1 ∙ all-step _ _ _ (c .before .before .before .loop-test .taken) (sym (page-mapped _ _ _ (c .before .mapped .ensures)) ∙ not-false _ (c .if1 .left))))
-
--- src/spans.rt:44:1
-returns-2 : tie.Need-returns-2 Inv-loop μ-loop
-returns-2 c = all-end _ _ _ (c .loop-test .left) ∙ sym (c .before .loop .inv .1 .1)
+-- src/spans.rt:52:1
+returns : tie.Need-returns
+returns c = c .all-are .ensures ∙ all-are _ _ _
 
 pub all-mapped-spec : {M : Type 1} → statement M
-all-mapped-spec =
-    tie.close
-    (tie.spec
-    Inv-loop
-    μ-loop
-    add-end
-    loop-holds
-    cast-mapped
-    mul-mapped
-    shared-slice-read-mapped
-    mapped-requires
-    returns
-    add-p
-    loop-less
-    loop-again
-    returns-2)
+all-mapped-spec = tie.close (tie.spec all-are-requires returns)

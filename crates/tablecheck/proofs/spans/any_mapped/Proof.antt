@@ -1,78 +1,17 @@
 use borrow.Author.Needs.{needs}
 use Rattle.tablecheck.proofs.spans.any_mapped.Statement.{statement}
 use Rattle.tablecheck.proofs.spans.any_mapped.Tie as tie
-use mathlib.Core.Path.{_≡_, refl, sym, _∙_}
-use Prim.Native.Nat.{_+_, _≤_, _-_}
-use native.Mathlib.Omega.{arith}
-use Rattle.words.specs.Searches.{anyFrom}
-use Rattle.words.proofs.SearchLaws.{any-start, any-step, any-stop, any-end}
-use Rattle.tablecheck.specs.Inner.{pageMapped}
-use Rattle.tablecheck.proofs.SpanLaws.{page-mapped}
+use mathlib.Core.Path.{ap, _∙_}
+use mathlib.Core.Bool.{not}
+use Rattle.tablecheck.proofs.SpanLaws.{any-is}
 
-abbrev Inv-loop : tie.InvT-loop
-Inv-loop part first count end p₀ p = (end ≡ first + count) × ((p ≤ end) × (anyFrom count first (pageMapped part) ≡ anyFrom (end - p) p (pageMapped part)))
+-- src/spans.rt:48:6
+all-are-requires : tie.Need-all-are-requires
+all-are-requires c κs = search needs
 
-abbrev μ-loop : tie.MeasureT-loop
-μ-loop part first count end p₀ p = end - p
-
--- src/spans.rt:32:15
-add-end : tie.Need-add-end Inv-loop μ-loop
-add-end c = search needs
-
--- src/spans.rt:34:5
-loop-holds : tie.Need-loop-holds Inv-loop μ-loop
-loop-holds c = (refl, (omega arith, any-start _ _ _ _ refl))
-
--- src/spans.rt:35:24
-cast-mapped : tie.Need-cast-mapped Inv-loop μ-loop
-cast-mapped c = search needs
-
--- src/spans.rt:35:19
-mul-mapped : tie.Need-mul-mapped Inv-loop μ-loop
-mul-mapped c = search needs
-
--- src/spans.rt:35:19
-shared-slice-read-mapped : tie.Need-shared-slice-read-mapped Inv-loop μ-loop
-shared-slice-read-mapped c = search needs
-
--- src/spans.rt:35:12
-mapped-requires : tie.Need-mapped-requires Inv-loop μ-loop
-mapped-requires c κs = search needs
-
--- src/spans.rt:36:13
-returns : tie.Need-returns Inv-loop μ-loop
-returns c = any-stop _ _ _ (c .before .before .before .loop-test .taken) (sym (page-mapped _ _ _ (c .before .mapped .ensures)) ∙ c .if1 .taken) ∙ sym (c .before .before .before .before .loop .inv .1 .1)
-
--- src/spans.rt:38:9
-add-p : tie.Need-add-p Inv-loop μ-loop
-add-p c = search needs
-
--- src/spans.rt:34:5
-loop-less : tie.Need-loop-less Inv-loop μ-loop
-loop-less c = search needs
-
--- src/spans.rt:34:5
-loop-again : tie.Need-loop-again Inv-loop μ-loop
-loop-again c = (c .before .before .before .before .loop .inv .0, (omega arith, c .before .before .before .before .loop .inv .1 .1 ∙ any-step _ _ _ (c .before .before .before .loop-test .taken) (sym (page-mapped _ _ _ (c .before .mapped .ensures)) ∙ c .if1 .left)))
-
--- src/spans.rt:27:1
-returns-2 : tie.Need-returns-2 Inv-loop μ-loop
-returns-2 c = any-end _ _ _ (c .loop-test .left) ∙ sym (c .before .loop .inv .1 .1)
+-- src/spans.rt:43:1
+returns : tie.Need-returns
+returns c = ap not (c .all-are .ensures) ∙ any-is _ _ _
 
 pub any-mapped-spec : {M : Type 1} → statement M
-any-mapped-spec =
-    tie.close
-    (tie.spec
-    Inv-loop
-    μ-loop
-    add-end
-    loop-holds
-    cast-mapped
-    mul-mapped
-    shared-slice-read-mapped
-    mapped-requires
-    returns
-    add-p
-    loop-less
-    loop-again
-    returns-2)
+any-mapped-spec = tie.close (tie.spec all-are-requires returns)
