@@ -3,19 +3,15 @@ use Rattle.control.proofs.fresh_control.Statement.{statement}
 use Rattle.control.proofs.fresh_control.Tie as tie
 use Rattle.control.proofs.ControlLaws.{fresh-is}
 
--- src/lib.rt:234:5
 fill-requires : tie.Need-fill-requires
 fill-requires c κs = search needs
 
--- src/lib.rt:235:5
 slice-write-control : tie.Need-slice-write-control
 slice-write-control c = search needs
 
--- src/lib.rt:230:1
 same-length : tie.Need-same-length
 same-length c = search needs
 
--- src/lib.rt:230:1
 returns : tie.Need-returns
 returns c = fresh-is _ _ _ (c .before .before .fill .ensures) (search needs)
 

@@ -15,23 +15,18 @@ use Rattle.coretrace.proofs.input.fill.Reads as fill-reads
 use Rattle.coretrace.proofs.keeps.Reads as keeps-reads
 use Rattle.coretrace.proofs.output.settle.Reads as settle-reads
 
--- src/main.rt:40:31
 keeps-requires : tie.Need-keeps-requires
 keeps-requires c κs = search needs
 
--- src/main.rt:40:9
 settle-requires : tie.Need-settle-requires
 settle-requires c κs = search needs
 
--- src/main.rt:42:9
 fill-requires : tie.Need-fill-requires
 fill-requires c κs = search needs
 
--- src/main.rt:31:1
 same-length : tie.Need-same-length
 same-length c = search needs
 
--- src/main.rt:31:1
 returns : tie.Need-returns
 returns c =
     let a = c .before .before .before .before .before .before .before .before .before .before .args in

@@ -7,20 +7,16 @@ use Rattle.coretrace.proofs.keeps.Reads as reads
 use Rattle.coretrace.proofs.keeps.Lts as lts
 use Rattle.records.proofs.ready.Reads as ready-reads
 
--- src/main.rt:24:8
 ready-requires : tie.Need-ready-requires
 ready-requires c κs = search needs
 
--- src/main.rt:25:23
 sub-result : tie.Need-sub-result
 sub-result c = search needs
 
--- src/main.rt:25:9
 returns : tie.Need-returns
 unfolding keeps
 returns c = rw (sym (c .before .before .ready .ensures) ∙ c .before .if1 .taken)
 
--- src/main.rt:19:1
 returns-2 : tie.Need-returns-2
 unfolding keeps
 returns-2 c = rw (sym (c .before .ready .ensures) ∙ c .if1 .left)

@@ -8,39 +8,30 @@ use Rattle.coretrace.proofs.list.Lts as lts
 use Rattle.coretrace.proofs.output.header.Reads as header-reads
 use Rattle.coretrace.proofs.run.Reads as run-reads
 
--- src/main.rt:101:5
 header-requires : tie.Need-header-requires
 header-requires c κs = search needs
 
--- src/main.rt:107:9
 slice-aggregate-run : tie.Need-slice-aggregate-run
 slice-aggregate-run c = search needs
 
--- src/main.rt:108:9
 slice-aggregate-run-2 : tie.Need-slice-aggregate-run-2
 slice-aggregate-run-2 c = search needs
 
--- src/main.rt:109:9
 slice-aggregate-run-3 : tie.Need-slice-aggregate-run-3
 slice-aggregate-run-3 c = search needs
 
--- src/main.rt:110:9
 slice-aggregate-run-4 : tie.Need-slice-aggregate-run-4
 slice-aggregate-run-4 c = search needs
 
--- src/main.rt:106:5
 run-requires : tie.Need-run-requires
 run-requires c κs = search needs
 
--- src/main.rt:95:1
 same-length : tie.Need-same-length
 same-length c = search needs
 
--- src/main.rt:95:1
 same-length-2 : tie.Need-same-length-2
 same-length-2 c = search needs
 
--- src/main.rt:95:1
 returns : tie.Need-returns
 unfolding zeroed
 returns c = search (needs, with-header)

@@ -28,35 +28,27 @@ abbrev μ-loop : tie.MeasureT-loop
 μ-loop control₀ frames₀ pages₀ ranges₀ buffer₀ lines₀ units₀ s₀ control frames pages ranges buffer lines units s =
     last - s .number
 
--- src/main.rt:65:9
 fresh-units-requires : tie.Need-fresh-units-requires Inv-loop μ-loop
 fresh-units-requires c κs = search needs
 
--- src/main.rt:72:5
 loop-holds : tie.Need-loop-holds Inv-loop μ-loop
 loop-holds c = (refl, (refl, (refl, (refl, (refl, (refl, starts _ _ _ _ (c .fresh-units .ensures)))))))
 
--- src/main.rt:73:9
 ahead-requires : tie.Need-ahead-requires Inv-loop μ-loop
 ahead-requires c κs = let l = c .before .before .before .before .loop in (l .inv .1 .1 .1 .1 .1 .1 .lies, (omega (arith, l, c .before .before .before .before .before .before .before .before .before .before .before .before .pre), (omega (arith, l, c .before .before .before .before .before .before .before .before .before .before .before .before .pre), c .before .before .if1 .taken)))
 
--- src/main.rt:75:13
 fetch-requires : tie.Need-fetch-requires Inv-loop μ-loop
 fetch-requires c κs = let r = c .before .before .before .before .ahead .ensures .0 .lies in (r .ordered, r .within)
 
--- src/main.rt:76:12
 wants-unit-requires : tie.Need-wants-unit-requires Inv-loop μ-loop
 wants-unit-requires c κs = search needs
 
--- src/main.rt:77:17
 step-on-requires : tie.Need-step-on-requires Inv-loop μ-loop
 step-on-requires c κs = (c .before .before .before .before .before .before .before .before .before .before .before .before .before .ahead .ensures .0, c .before .before .before .before .before .before .before .before .fetch .ensures)
 
--- src/main.rt:72:5
 loop-less : tie.Need-loop-less Inv-loop μ-loop
 loop-less c = let n = c .before .before .before .before .before .before .before .before .before .before .before .before .step-on .ensures .0 .number in let a = c .before .before .before .before .before .before .before .before .before .before .before .before .before .before .before .before .before .before .before .before .before .before .before .before .before .before .ahead .ensures in let t = c .before .before .before .before .before .before .before .before .before .before .before .before .before .before .before .before .before .before .before .before .before .before .before .before .before .before .before .before .before .if1 .taken in omega (arith, n, a .1 .0, t)
 
--- src/main.rt:72:5
 loop-again : tie.Need-loop-again Inv-loop μ-loop
 loop-again c =
     let l = c .before .before .before .before .before .before .before .before .before .before .before .before .before .before .before .before .before .before .before .before .before .before .before .before .before .before .before .before .before .before .before .loop in
@@ -65,19 +57,15 @@ loop-again c =
     let g = wants-goes (st .ensures .0 .came) (ap wantsUnit (sym (c .before .before .before .before .before .before .before .before .before .before .before .before .before .before .before .before .before .before .before .before .before .fetch .ensures)) ∙ sym (c .before .before .before .before .before .before .before .before .before .before .before .before .before .before .before .before .before .before .before .before .wants-unit .ensures) ∙ c .before .before .before .before .before .before .before .before .before .before .before .before .before .before .before .before .before .before .before .if2 .taken) in
     (omega (arith, l, st), (omega (arith, l, st), (omega (arith, l, st), (omega (arith, l, st), (omega (arith, l, ah), (omega (arith, l, st), turned _ _ _ _ _ _ _ _ _ _ _ _ (l .inv .1 .1 .1 .1 .1 .1) (ah .ensures .0) (ah .ensures .1 .0) (ah .ensures .1 .1 .0) (st .ensures .0) (st .ensures .1) (omega (arith, st)) g))))))
 
--- src/main.rt:82:13
 step-beside-requires : tie.Need-step-beside-requires Inv-loop μ-loop
 step-beside-requires c κs = (c .before .before .before .before .before .before .before .before .before .before .before .before .before .ahead .ensures .0, (c .before .before .before .before .before .before .before .before .fetch .ensures, sym (c .before .before .before .before .before .before .before .wants-unit .ensures) ∙ c .before .before .before .before .before .before .if2 .left))
 
--- src/main.rt:88:13
 fresh-units-requires-2 : tie.Need-fresh-units-requires-2 Inv-loop μ-loop
 fresh-units-requires-2 c κs = search needs
 
--- src/main.rt:72:5
 loop-less-2 : tie.Need-loop-less-2 Inv-loop μ-loop
 loop-less-2 c = let n = c .before .before .before .before .before .before .before .before .before .before .before .before .before .before .before .step-beside .ensures .0 (c .before .before .before .before .before .before .before .before .before .before .before .before .before .before .before .before .before .before .before .before .before .before .before .before .before .before .before .before .before .before .before .before .before .before .loop .units) .number in let a = c .before .before .before .before .before .before .before .before .before .before .before .before .before .before .before .before .before .before .before .before .before .before .before .before .before .before .before .before .before .ahead .ensures in let t = c .before .before .before .before .before .before .before .before .before .before .before .before .before .before .before .before .before .before .before .before .before .before .before .before .before .before .before .before .before .before .before .before .if1 .taken in omega (arith, n, a .1 .0, t)
 
--- src/main.rt:72:5
 loop-again-2 : tie.Need-loop-again-2 Inv-loop μ-loop
 loop-again-2 c =
     let l = c .before .before .before .before .before .before .before .before .before .before .before .before .before .before .before .before .before .before .before .before .before .before .before .before .before .before .before .before .before .before .before .before .before .before .loop in
@@ -85,11 +73,9 @@ loop-again-2 c =
     let st = c .before .before .before .before .before .before .before .before .before .before .before .before .before .before .before .step-beside in
     (omega (arith, l, st), (omega (arith, l, st), (omega (arith, l, st), (omega (arith, l, st), (omega (arith, l, ah), (omega (arith, l, st), units-fresh _ _ _ _ _ _ _ (turned _ _ _ _ _ _ _ _ _ _ _ _ (l .inv .1 .1 .1 .1 .1 .1) (ah .ensures .0) (ah .ensures .1 .0) (ah .ensures .1 .1 .0) (st .ensures .0 (l .units)) (st .ensures .1) (omega (arith, st)) (not-false _ (c .before .before .if3 .left))) _ (c .fresh-units2 .ensures) (c .before .if4 .taken)))))))
 
--- src/main.rt:72:5
 loop-less-3 : tie.Need-loop-less-3 Inv-loop μ-loop
 loop-less-3 c = let n = c .before .before .before .before .before .before .before .before .before .before .before .before .before .before .step-beside .ensures .0 (c .before .before .before .before .before .before .before .before .before .before .before .before .before .before .before .before .before .before .before .before .before .before .before .before .before .before .before .before .before .before .before .before .before .loop .units) .number in let a = c .before .before .before .before .before .before .before .before .before .before .before .before .before .before .before .before .before .before .before .before .before .before .before .before .before .before .before .before .ahead .ensures in let t = c .before .before .before .before .before .before .before .before .before .before .before .before .before .before .before .before .before .before .before .before .before .before .before .before .before .before .before .before .before .before .before .if1 .taken in omega (arith, n, a .1 .0, t)
 
--- src/main.rt:72:5
 loop-again-3 : tie.Need-loop-again-3 Inv-loop μ-loop
 loop-again-3 c =
     let l = c .before .before .before .before .before .before .before .before .before .before .before .before .before .before .before .before .before .before .before .before .before .before .before .before .before .before .before .before .before .before .before .before .before .loop in
@@ -97,59 +83,45 @@ loop-again-3 c =
     let st = c .before .before .before .before .before .before .before .before .before .before .before .before .before .before .step-beside in
     (omega (arith, l, st), (omega (arith, l, st), (omega (arith, l, st), (omega (arith, l, st), (omega (arith, l, ah), (omega (arith, l, st), units-stay _ _ _ _ _ _ _ (turned _ _ _ _ _ _ _ _ _ _ _ _ (l .inv .1 .1 .1 .1 .1 .1) (ah .ensures .0) (ah .ensures .1 .0) (ah .ensures .1 .1 .0) (st .ensures .0 (l .units)) (st .ensures .1) (omega (arith, st)) (not-false _ (c .before .if3 .left))) (c .if4 .left)))))))
 
--- src/main.rt:52:1
 same-length : tie.Need-same-length Inv-loop μ-loop
 same-length c = search needs
 
--- src/main.rt:52:1
 same-length-2 : tie.Need-same-length-2 Inv-loop μ-loop
 same-length-2 c = search needs
 
--- src/main.rt:52:1
 same-length-3 : tie.Need-same-length-3 Inv-loop μ-loop
 same-length-3 c = search needs
 
--- src/main.rt:52:1
 same-length-4 : tie.Need-same-length-4 Inv-loop μ-loop
 same-length-4 c = search needs
 
--- src/main.rt:52:1
 same-length-5 : tie.Need-same-length-5 Inv-loop μ-loop
 same-length-5 c = search needs
 
--- src/main.rt:52:1
 same-length-6 : tie.Need-same-length-6 Inv-loop μ-loop
 same-length-6 c = search needs
 
--- src/main.rt:52:1
 returns : tie.Need-returns Inv-loop μ-loop
 returns c = let l = c .before .before .loop in (omega (arith, l, l .inv .1 .1 .1 .1 .1 .1 .lies .held), runs-out _ _ _ _ _ _ (l .inv .1 .1 .1 .1 .1 .1) (c .if1 .left))
 
--- src/main.rt:52:1
 same-length-7 : tie.Need-same-length-7 Inv-loop μ-loop
 same-length-7 c = omega (arith, c .before .before .before .before .before .before .before .before .before .before .before .before .before .before .before .before .before .before .before .before .before .before .before .before .before .before .before .before .before .before .before .before .loop, c .before .before .before .before .before .before .before .before .before .before .before .before .before .step-beside)
 
--- src/main.rt:52:1
 same-length-8 : tie.Need-same-length-8 Inv-loop μ-loop
 same-length-8 c = omega (arith, c .before .before .before .before .before .before .before .before .before .before .before .before .before .before .before .before .before .before .before .before .before .before .before .before .before .before .before .before .before .before .before .before .loop, c .before .before .before .before .before .before .before .before .before .before .before .before .before .step-beside)
 
--- src/main.rt:52:1
 same-length-9 : tie.Need-same-length-9 Inv-loop μ-loop
 same-length-9 c = omega (arith, c .before .before .before .before .before .before .before .before .before .before .before .before .before .before .before .before .before .before .before .before .before .before .before .before .before .before .before .before .before .before .before .before .loop, c .before .before .before .before .before .before .before .before .before .before .before .before .before .step-beside)
 
--- src/main.rt:52:1
 same-length-10 : tie.Need-same-length-10 Inv-loop μ-loop
 same-length-10 c = omega (arith, c .before .before .before .before .before .before .before .before .before .before .before .before .before .before .before .before .before .before .before .before .before .before .before .before .before .before .before .before .before .before .before .before .loop, c .before .before .before .before .before .before .before .before .before .before .before .before .before .step-beside)
 
--- src/main.rt:52:1
 same-length-11 : tie.Need-same-length-11 Inv-loop μ-loop
 same-length-11 c = omega (arith, c .before .before .before .before .before .before .before .before .before .before .before .before .before .before .before .before .before .before .before .before .before .before .before .before .before .before .before .before .before .before .before .before .loop, c .before .before .before .before .before .before .before .before .before .before .before .before .before .before .before .before .before .before .before .before .before .before .before .before .before .before .before .ahead)
 
--- src/main.rt:52:1
 same-length-12 : tie.Need-same-length-12 Inv-loop μ-loop
 same-length-12 c = omega (arith, c .before .before .before .before .before .before .before .before .before .before .before .before .before .before .before .before .before .before .before .before .before .before .before .before .before .before .before .before .before .before .before .before .loop, c .before .before .before .before .before .before .before .before .before .before .before .before .before .step-beside)
 
--- src/main.rt:52:1
 returns-2 : tie.Need-returns-2 Inv-loop μ-loop
 returns-2 c =
     let l = c .before .before .before .before .before .before .before .before .before .before .before .before .before .before .before .before .before .before .before .before .before .before .before .before .before .before .before .before .before .before .before .before .loop in

@@ -17,47 +17,36 @@ Inv-loop part n₀ m₀ p₀ n m p = (p ≤ pagesInSpace) × ((n ≡ count p (pa
 abbrev μ-loop : tie.MeasureT-loop
 μ-loop part n₀ m₀ p₀ n m p = pagesInSpace - p
 
--- src/lib.rt:77:5
 loop-holds : tie.Need-loop-holds Inv-loop μ-loop
 loop-holds c = (zero-le, (count-nothing _, count-nothing _))
 
--- src/lib.rt:78:17
 mul-w : tie.Need-mul-w Inv-loop μ-loop
 mul-w c = search needs
 
--- src/lib.rt:78:17
 shared-slice-read-w : tie.Need-shared-slice-read-w Inv-loop μ-loop
 shared-slice-read-w c = search needs
 
--- src/lib.rt:79:14
 one-if-mapped-requires : tie.Need-one-if-mapped-requires Inv-loop μ-loop
 one-if-mapped-requires c κs = search needs
 
--- src/lib.rt:79:9
 add-n : tie.Need-add-n Inv-loop μ-loop
 add-n c = record { fits = omega (arith, at-most-one _ _ (c .one-if-mapped .ensures), count-le (c .before .before .before .loop .p) (pageMapped (c .before .before .before .before .before .args .part .now))) }
 
--- src/lib.rt:80:14
 one-if-in-range-requires : tie.Need-one-if-in-range-requires Inv-loop μ-loop
 one-if-in-range-requires c κs = search needs
 
--- src/lib.rt:80:9
 add-m : tie.Need-add-m Inv-loop μ-loop
 add-m c = record { fits = omega (arith, at-most-one _ _ (c .one-if-in-range .ensures), count-le (c .before .before .before .before .loop .p) (pageInRange (c .before .before .before .before .before .before .args .part .now))) }
 
--- src/lib.rt:81:9
 add-p : tie.Need-add-p Inv-loop μ-loop
 add-p c = search needs
 
--- src/lib.rt:77:5
 loop-less : tie.Need-loop-less Inv-loop μ-loop
 loop-less c = search needs
 
--- src/lib.rt:77:5
 loop-again : tie.Need-loop-again Inv-loop μ-loop
 loop-again c = let i = c .before .before .before .before .loop .inv in (omega arith, (mapped-more _ _ _ _ (i .1 .0) (c .before .one-if-mapped .ensures), in-range-more _ _ _ _ (i .1 .1) (c .one-if-in-range .ensures)))
 
--- src/lib.rt:69:1
 returns : tie.Need-returns Inv-loop μ-loop
 returns c = let e : c .before .loop .p ≡ pagesInSpace = omega arith in rw e at (c .before .loop .inv .1)
 

@@ -6,47 +6,36 @@ use Rattle.layout.proofs.SoundLaws.{lengths-at}
 use Rattle.layout.proofs.CallLaws.{call-refused, call-asked}
 use Rattle.coverage.proofs.CoverageLaws.{coverage-facts, coverage-done}
 
--- src/lib.rt:108:9
 judge-coverage-requires : tie.Need-judge-coverage-requires
 judge-coverage-requires c κs = search needs
 
--- src/lib.rt:109:9
 outcome-requires : tie.Need-outcome-requires
 outcome-requires c κs = search needs
 
--- src/lib.rt:111:9
 returns : tie.Need-returns
 returns c = call-refused (Coverage _) _ _ _ (c .before .before .before .judge-coverage .ensures) (c .before .before .outcome .ensures) (c .if1 .taken)
 
--- src/lib.rt:113:13
 mul-a : tie.Need-mul-a
 mul-a c = search needs
 
--- src/lib.rt:114:13
 add-e : tie.Need-add-e
 add-e c = search needs
 
--- src/lib.rt:116:23
 mul-figure : tie.Need-mul-figure
 mul-figure c = let w = coverage-facts _ _ (call-asked (Coverage _) _ _ _ (c .before .before .before .judge-coverage .ensures) (c .before .before .outcome .ensures) (c .if1 .left)) in let l = lengths-at _ (w .lengths) .pages in let h = w .space in search needs
 
--- src/lib.rt:116:23
 sub-figure : tie.Need-sub-figure
 sub-figure c = let w = coverage-facts _ _ (call-asked (Coverage _) _ _ _ (c .before .before .before .judge-coverage .ensures) (c .before .before .outcome .ensures) (c .if1 .left)) in let l = lengths-at _ (w .lengths) .pages in let h = w .space in search needs
 
--- src/lib.rt:116:23
 part-figure-start : tie.Need-part-figure-start
 part-figure-start c = let w = coverage-facts _ _ (call-asked (Coverage _) _ _ _ (c .before .before .before .judge-coverage .ensures) (c .before .before .outcome .ensures) (c .if1 .left)) in let l = lengths-at _ (w .lengths) .pages in let h = w .space in search needs
 
--- src/lib.rt:116:23
 part-figure-end : tie.Need-part-figure-end
 part-figure-end c = let w = coverage-facts _ _ (call-asked (Coverage _) _ _ _ (c .before .before .before .judge-coverage .ensures) (c .before .before .outcome .ensures) (c .if1 .left)) in let l = lengths-at _ (w .lengths) .pages in let h = w .space in search needs
 
--- src/lib.rt:116:16
 figure-requires : tie.Need-figure-requires
 figure-requires c κs = let w = coverage-facts _ _ (call-asked (Coverage _) _ _ _ (c .before .before .before .before .judge-coverage .ensures) (c .before .before .before .outcome .ensures) (c .before .if1 .left)) in let l = lengths-at _ (w .lengths) .pages in let h = w .space in (search needs, w .some)
 
--- src/lib.rt:99:1
 returns-2 : tie.Need-returns-2
 returns-2 c = coverage-done _ _ _ _ (c .before .before .before .before .before .judge-coverage .ensures) (c .before .before .before .before .outcome .ensures) (c .before .before .if1 .left) _ (c .figure .ensures)
 

@@ -10,51 +10,39 @@ use Rattle.words.proofs.RowLaws.{none-first, stops, refused-then, judged-then}
 use Rattle.refusals.specs.Inner.{shared}
 use Rattle.refusals.proofs.VerdictLaws.{shared-order, shared-shown, coverage-parts, any-by}
 
--- src/lib.rt:33:9
 judge-shared-requires : tie.Need-judge-shared-requires
 judge-shared-requires c κs = search needs
 
--- src/lib.rt:34:9
 outcome-requires : tie.Need-outcome-requires
 outcome-requires c κs = search needs
 
--- src/lib.rt:36:9
 returns : tie.Need-returns
 returns c = stops _ (shared-order _ _ _ _ _) _ _ (c .before .before .before .judge-shared .ensures) (c .before .before .outcome .ensures) _ (c .if1 .taken) ∙ ap refusal (sym (coverage-parts _ _))
 
--- src/lib.rt:38:13
 mul-a : tie.Need-mul-a
 mul-a c = search needs
 
--- src/lib.rt:39:13
 add-e : tie.Need-add-e
 add-e c = search needs
 
--- src/lib.rt:40:20
 mul-any-mapped : tie.Need-mul-any-mapped
 mul-any-mapped c = let w = shared-shown _ _ _ _ _ (none-first _ (shared-order _ _ _ _ _) _ _ (c .before .before .before .judge-shared .ensures) (c .before .before .outcome .ensures) (c .if1 .left)) in let l = w .lengths .pages in let h = w .space in search needs
 
--- src/lib.rt:40:20
 sub-any-mapped : tie.Need-sub-any-mapped
 sub-any-mapped c = let w = shared-shown _ _ _ _ _ (none-first _ (shared-order _ _ _ _ _) _ _ (c .before .before .before .judge-shared .ensures) (c .before .before .outcome .ensures) (c .if1 .left)) in let l = w .lengths .pages in let h = w .space in search needs
 
--- src/lib.rt:40:20
 part-any-mapped-start : tie.Need-part-any-mapped-start
 part-any-mapped-start c = let w = shared-shown _ _ _ _ _ (none-first _ (shared-order _ _ _ _ _) _ _ (c .before .before .before .judge-shared .ensures) (c .before .before .outcome .ensures) (c .if1 .left)) in let l = w .lengths .pages in let h = w .space in search needs
 
--- src/lib.rt:40:20
 part-any-mapped-end : tie.Need-part-any-mapped-end
 part-any-mapped-end c = let w = shared-shown _ _ _ _ _ (none-first _ (shared-order _ _ _ _ _) _ _ (c .before .before .before .judge-shared .ensures) (c .before .before .outcome .ensures) (c .if1 .left)) in let l = w .lengths .pages in let h = w .space in search needs
 
--- src/lib.rt:40:9
 any-mapped-requires : tie.Need-any-mapped-requires
 any-mapped-requires c κs = let w = shared-shown _ _ _ _ _ (none-first _ (shared-order _ _ _ _ _) _ _ (c .before .before .before .before .judge-shared .ensures) (c .before .before .before .outcome .ensures) (c .before .if1 .left)) in let l = w .lengths .pages in let h = w .space in search needs
 
--- src/lib.rt:41:9
 returns-2 : tie.Need-returns-2
 returns-2 c = refused-then _ (shared-order _ _ _ _ _) _ _ (c .before .before .before .before .before .before .judge-shared .ensures) (c .before .before .before .before .before .outcome .ensures) _ _ (c .before .before .before .if1 .left) (refused _ _ _ _ (ap not (any-by _ _ _ _ _ (c .before .any-mapped .ensures) ∙ not-true _ (c .if2 .taken)))) ∙ ap refusal (sym (coverage-parts _ _))
 
--- src/lib.rt:24:1
 returns-3 : tie.Need-returns-3
 returns-3 c = judged-then _ (shared-order _ _ _ _ _) _ _ (c .before .before .before .before .before .before .judge-shared .ensures) (c .before .before .before .before .before .outcome .ensures) _ (c .before .before .before .if1 .left) (passed _ _ _ _ (ap not (any-by _ _ _ _ _ (c .before .any-mapped .ensures) ∙ not-false _ (c .if2 .left))) ∙ decided _) ∙ ap refusal (sym (coverage-parts _ _))
 

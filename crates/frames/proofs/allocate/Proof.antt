@@ -8,81 +8,62 @@ use borrow.Author.Tests.{not-true, not-false}
 use Rattle.blocks.proofs.WordLaws.{lawful-is}
 use Rattle.blocks.proofs.CallLaws.{passed, owners-in, allocate-stopped, allocate-span, allocate-held, allocate-few, allocate-done}
 
--- src/lib.rt:145:9
 check-requires : tie.Need-check-requires
 check-requires c κs = search needs
 
--- src/lib.rt:146:9
 outcome-requires : tie.Need-outcome-requires
 outcome-requires c κs = search needs
 
--- src/lib.rt:148:9
 same-length : tie.Need-same-length
 same-length c = search needs
 
--- src/lib.rt:148:9
 returns : tie.Need-returns
 returns c = allocate-stopped _ _ _ _ (c .before .before .before .check .ensures) (c .before .before .outcome .ensures) _ _ (c .if1 .taken)
 
--- src/lib.rt:151:9
 in-owners-requires : tie.Need-in-owners-requires
 in-owners-requires c κs = search needs
 
--- src/lib.rt:153:9
 same-length-2 : tie.Need-same-length-2
 same-length-2 c = search needs
 
--- src/lib.rt:153:9
 returns-2 : tie.Need-returns-2
 returns-2 c = allocate-span _ _ _ _ (passed _ _ _ _ (c .before .before .before .before .before .check .ensures) (c .before .before .before .before .outcome .ensures) (c .before .before .if1 .left)) (sym (c .before .in-owners .ensures) ∙ not-true _ (c .if2 .taken))
 
--- src/lib.rt:155:46
 cast-any-held : tie.Need-cast-any-held
 cast-any-held c = let w = owners-in _ _ (sym (c .before .before .in-owners .ensures) ∙ not-false _ (c .before .if2 .left)) in omega (arith, w .2)
 
--- src/lib.rt:155:9
 any-held-requires : tie.Need-any-held-requires
 any-held-requires c κs = let l = lawful-is _ _ (passed _ _ _ _ (c .before .before .before .before .before .before .check .ensures) (c .before .before .before .before .before .outcome .ensures) (c .before .before .before .if1 .left)) in (l .len, l .small)
 
--- src/lib.rt:157:9
 same-length-3 : tie.Need-same-length-3
 same-length-3 c = search needs
 
--- src/lib.rt:157:9
 returns-3 : tie.Need-returns-3
 returns-3 c = allocate-held _ _ _ _ (passed _ _ _ _ (c .before .before .before .before .before .before .before .before .check .ensures) (c .before .before .before .before .before .before .before .outcome .ensures) (c .before .before .before .before .before .if1 .left)) (sym (c .before .before .before .before .in-owners .ensures) ∙ not-false _ (c .before .before .before .if2 .left)) (sym (c .before .any-held .ensures) ∙ c .if3 .taken)
 
--- src/lib.rt:159:9
 count-free-requires : tie.Need-count-free-requires
 count-free-requires c κs = let l = lawful-is _ _ (passed _ _ _ _ (c .before .before .before .before .before .before .before .before .before .check .ensures) (c .before .before .before .before .before .before .before .before .outcome .ensures) (c .before .before .before .before .before .before .if1 .left)) in (l .len, l .small)
 
--- src/lib.rt:160:15
 cast-if4 : tie.Need-cast-if4
 cast-if4 c = let w = owners-in _ _ (sym (c .before .before .before .before .before .before .in-owners .ensures) ∙ not-false _ (c .before .before .before .before .before .if2 .left)) in omega (arith, w .2)
 
--- src/lib.rt:161:9
 same-length-4 : tie.Need-same-length-4
 same-length-4 c = search needs
 
--- src/lib.rt:161:9
 returns-4 : tie.Need-returns-4
 returns-4 c = allocate-few _ _ _ _ (passed _ _ _ _ (c .before .before .before .before .before .before .before .before .before .before .before .check .ensures) (c .before .before .before .before .before .before .before .before .before .before .outcome .ensures) (c .before .before .before .before .before .before .before .before .if1 .left)) (sym (c .before .before .before .before .before .before .before .in-owners .ensures) ∙ not-false _ (c .before .before .before .before .before .before .if2 .left)) (sym (c .before .before .before .before .any-held .ensures) ∙ c .before .before .before .if3 .left) (omega (arith, c .before .count-free .ensures, c .if4 .taken))
 
--- src/lib.rt:163:17
 take-frames-requires : tie.Need-take-frames-requires
 take-frames-requires c κs =
     let w = owners-in _ _ (sym (c .before .before .before .before .before .before .before .before .before .in-owners .ensures) ∙ not-false _ (c .before .before .before .before .before .before .before .before .if2 .left)) in
     (passed _ _ _ _ (c .before .before .before .before .before .before .before .before .before .before .before .before .before .check .ensures) (c .before .before .before .before .before .before .before .before .before .before .before .before .outcome .ensures) (c .before .before .before .before .before .before .before .before .before .before .if1 .left), (omega (arith, c .before .before .before .count-free .ensures, c .before .before .if4 .left), (w .1, w .2)))
 
--- src/lib.rt:142:1
 same-length-5 : tie.Need-same-length-5
 same-length-5 c = search needs
 
--- src/lib.rt:142:1
 same-length-6 : tie.Need-same-length-6
 same-length-6 c = search needs
 
--- src/lib.rt:142:1
 returns-5 : tie.Need-returns-5
 returns-5 c = allocate-done _ _ _ _ (passed _ _ _ _ (c .before .before .before .before .before .before .before .before .before .before .before .before .before .before .before .before .before .before .check .ensures) (c .before .before .before .before .before .before .before .before .before .before .before .before .before .before .before .before .before .outcome .ensures) (c .before .before .before .before .before .before .before .before .before .before .before .before .before .before .before .if1 .left)) (sym (c .before .before .before .before .before .before .before .before .before .before .before .before .before .before .in-owners .ensures) ∙ not-false _ (c .before .before .before .before .before .before .before .before .before .before .before .before .before .if2 .left)) (sym (c .before .before .before .before .before .before .before .before .before .before .before .any-held .ensures) ∙ c .before .before .before .before .before .before .before .before .before .before .if3 .left) _ _ _ (omega (arith, c .before .before .before .before .before .before .before .before .count-free .ensures, c .before .before .before .before .before .before .before .if4 .left)) (c .before .before .before .before .take-frames .ensures)
 

@@ -6,27 +6,21 @@ use Prim.Native.Nat.{_-_}
 use borrow.Author.Tests.{not-true, not-false}
 use Rattle.blocks.proofs.CallLaws.{check-length, check-size, check-unlawful, check-done}
 
--- src/lib.rt:115:9
 returns : tie.Need-returns
 returns c = check-length _ _ (c .if1 .taken)
 
--- src/lib.rt:117:9
 is-pool-size-requires : tie.Need-is-pool-size-requires
 is-pool-size-requires c κs = search needs
 
--- src/lib.rt:119:9
 returns-2 : tie.Need-returns-2
 returns-2 c = check-size _ _ (c .before .before .if1 .left) (sym (c .before .is-pool-size .ensures) ∙ not-true _ (c .if2 .taken))
 
--- src/lib.rt:121:9
 lawful-requires : tie.Need-lawful-requires
 lawful-requires c κs = search needs
 
--- src/lib.rt:123:9
 returns-3 : tie.Need-returns-3
 returns-3 c = check-unlawful _ _ (c .before .before .before .before .if1 .left) (sym (c .before .before .before .is-pool-size .ensures) ∙ not-false _ (c .before .before .if2 .left)) (sym (c .before .lawful .ensures) ∙ not-true _ (c .if3 .taken))
 
--- src/lib.rt:111:1
 returns-4 : tie.Need-returns-4
 returns-4 c = check-done _ _ (sym (c .before .lawful .ensures) ∙ not-false _ (c .if3 .left))
 

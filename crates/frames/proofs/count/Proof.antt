@@ -5,23 +5,18 @@ use Prim.Native.Nat.{_-_}
 use Rattle.blocks.proofs.WordLaws.{lawful-is}
 use Rattle.blocks.proofs.CallLaws.{passed, count-stopped, count-done}
 
--- src/lib.rt:132:9
 check-requires : tie.Need-check-requires
 check-requires c κs = search needs
 
--- src/lib.rt:133:9
 outcome-requires : tie.Need-outcome-requires
 outcome-requires c κs = search needs
 
--- src/lib.rt:135:9
 returns : tie.Need-returns
 returns c = count-stopped _ _ _ _ (c .before .before .before .check .ensures) (c .before .before .outcome .ensures) (c .if1 .taken)
 
--- src/lib.rt:137:17
 count-free-requires : tie.Need-count-free-requires
 count-free-requires c κs = let l = lawful-is _ _ (passed _ _ _ _ (c .before .before .before .check .ensures) (c .before .before .outcome .ensures) (c .if1 .left)) in (l .len, l .small)
 
--- src/lib.rt:129:1
 returns-2 : tie.Need-returns-2
 returns-2 c = count-done _ _ (passed _ _ _ _ (c .before .before .before .before .check .ensures) (c .before .before .before .outcome .ensures) (c .before .if1 .left)) _ (c .count-free .ensures)
 

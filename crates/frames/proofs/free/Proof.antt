@@ -8,75 +8,59 @@ use borrow.Author.Tests.{not-true, not-false}
 use Rattle.blocks.proofs.WordLaws.{lawful-is}
 use Rattle.blocks.proofs.CallLaws.{passed, owners-in, free-stopped, free-span, free-missing, free-done, free-more}
 
--- src/lib.rt:170:9
 check-requires : tie.Need-check-requires
 check-requires c κs = search needs
 
--- src/lib.rt:171:9
 outcome-requires : tie.Need-outcome-requires
 outcome-requires c κs = search needs
 
--- src/lib.rt:173:9
 same-length : tie.Need-same-length
 same-length c = search needs
 
--- src/lib.rt:173:9
 returns : tie.Need-returns
 returns c = free-stopped _ _ _ _ (c .before .before .before .check .ensures) (c .before .before .outcome .ensures) _ _ (c .if1 .taken)
 
--- src/lib.rt:175:9
 in-owners-requires : tie.Need-in-owners-requires
 in-owners-requires c κs = search needs
 
--- src/lib.rt:177:9
 same-length-2 : tie.Need-same-length-2
 same-length-2 c = search needs
 
--- src/lib.rt:177:9
 returns-2 : tie.Need-returns-2
 returns-2 c = free-span _ _ _ _ (passed _ _ _ _ (c .before .before .before .before .before .check .ensures) (c .before .before .before .before .outcome .ensures) (c .before .before .if1 .left)) (sym (c .before .in-owners .ensures) ∙ not-true _ (c .if2 .taken))
 
--- src/lib.rt:179:9
 all-held-requires : tie.Need-all-held-requires
 all-held-requires c κs =
     let l = lawful-is _ _ (passed _ _ _ _ (c .before .before .before .before .before .before .check .ensures) (c .before .before .before .before .before .outcome .ensures) (c .before .before .before .if1 .left)) in
     let w = owners-in _ _ (sym (c .before .before .in-owners .ensures) ∙ not-false _ (c .before .if2 .left)) in
     (l .len, (l .small, omega (arith, w .1, w .2)))
 
--- src/lib.rt:181:9
 same-length-3 : tie.Need-same-length-3
 same-length-3 c = search needs
 
--- src/lib.rt:181:9
 returns-3 : tie.Need-returns-3
 returns-3 c = free-missing _ _ _ _ (passed _ _ _ _ (c .before .before .before .before .before .before .before .before .check .ensures) (c .before .before .before .before .before .before .before .outcome .ensures) (c .before .before .before .before .before .if1 .left)) (sym (c .before .before .before .before .in-owners .ensures) ∙ not-false _ (c .before .before .before .if2 .left)) (sym (c .before .all-held .ensures) ∙ not-true _ (c .if3 .taken))
 
--- src/lib.rt:183:9
 count-free-requires : tie.Need-count-free-requires
 count-free-requires c κs = let l = lawful-is _ _ (passed _ _ _ _ (c .before .before .before .before .before .before .before .before .before .check .ensures) (c .before .before .before .before .before .before .before .before .outcome .ensures) (c .before .before .before .before .before .before .if1 .left)) in (l .len, l .small)
 
--- src/lib.rt:184:5
 release-requires : tie.Need-release-requires
 release-requires c κs =
     let l = lawful-is _ _ (passed _ _ _ _ (c .before .before .before .before .before .before .before .before .before .before .before .check .ensures) (c .before .before .before .before .before .before .before .before .before .before .outcome .ensures) (c .before .before .before .before .before .before .before .before .if1 .left)) in
     let w = owners-in _ _ (sym (c .before .before .before .before .before .before .before .in-owners .ensures) ∙ not-false _ (c .before .before .before .before .before .before .if2 .left)) in
     (l .len, (l .small, (w .1, w .2)))
 
--- src/lib.rt:185:9
 count-free-requires-2 : tie.Need-count-free-requires-2
 count-free-requires-2 c κs = let l = lawful-is _ _ (passed _ _ _ _ (c .before .before .before .before .before .before .before .before .before .before .before .before .before .before .before .check .ensures) (c .before .before .before .before .before .before .before .before .before .before .before .before .before .before .outcome .ensures) (c .before .before .before .before .before .before .before .before .before .before .before .before .if1 .left)) in (c .before .before .before .release .kept .0 ∙ l .len, l .small)
 
--- src/lib.rt:186:17
 sub-t24 : tie.Need-sub-t24
 sub-t24 c =
     let m = free-more _ _ _ _ (passed _ _ _ _ (c .before .before .before .before .before .before .before .before .before .before .before .before .before .before .before .before .check .ensures) (c .before .before .before .before .before .before .before .before .before .before .before .before .before .before .before .outcome .ensures) (c .before .before .before .before .before .before .before .before .before .before .before .before .before .if1 .left)) (sym (c .before .before .before .before .before .before .before .before .before .before .before .before .in-owners .ensures) ∙ not-false _ (c .before .before .before .before .before .before .before .before .before .before .before .if2 .left)) _ (c .before .before .before .before .release .ensures) in
     omega (arith, m, c .before .before .before .before .before .before .count-free .ensures, c .count-free2 .ensures)
 
--- src/lib.rt:167:1
 same-length-4 : tie.Need-same-length-4
 same-length-4 c = search needs
 
--- src/lib.rt:167:1
 returns-4 : tie.Need-returns-4
 returns-4 c = free-done _ _ _ _ (passed _ _ _ _ (c .before .before .before .before .before .before .before .before .before .before .before .before .before .before .before .before .check .ensures) (c .before .before .before .before .before .before .before .before .before .before .before .before .before .before .before .outcome .ensures) (c .before .before .before .before .before .before .before .before .before .before .before .before .before .if1 .left)) (sym (c .before .before .before .before .before .before .before .before .before .before .before .before .in-owners .ensures) ∙ not-false _ (c .before .before .before .before .before .before .before .before .before .before .before .if2 .left)) _ _ _ (sym (c .before .before .before .before .before .before .before .before .before .all-held .ensures) ∙ not-false _ (c .before .before .before .before .before .before .before .before .if3 .left)) (c .before .before .before .before .release .ensures) (c .before .before .before .before .before .before .count-free .ensures) (c .count-free2 .ensures)
 

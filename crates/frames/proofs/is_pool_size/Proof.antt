@@ -4,11 +4,9 @@ use Prim.Native.Nat.{_-_}
 use native.Mathlib.Omega.{arith}
 use Rattle.blocks.proofs.CallLaws.{size-low, size-high}
 
--- src/lib.rt:74:9
 returns : tie.Need-returns
 returns c = size-low _ (c .if1 .taken)
 
--- src/lib.rt:70:1
 returns-2 : tie.Need-returns-2
 returns-2 c = size-high _ (omega arith)
 

@@ -7,27 +7,21 @@ use borrow.Author.Tests.{not-true, not-false}
 use Rattle.blocks.proofs.WordLaws.{size-at}
 use Rattle.blocks.proofs.CallLaws.{set-up-length, set-up-size, set-up-done}
 
--- src/lib.rt:100:9
 returns : tie.Need-returns
 returns c = set-up-length _ _ (c .if1 .taken)
 
--- src/lib.rt:102:9
 is-pool-size-requires : tie.Need-is-pool-size-requires
 is-pool-size-requires c κs = search needs
 
--- src/lib.rt:104:9
 returns-2 : tie.Need-returns-2
 returns-2 c = set-up-size _ _ (c .before .before .if1 .left) (sym (c .before .is-pool-size .ensures) ∙ not-true _ (c .if2 .taken))
 
--- src/lib.rt:106:5
 fresh-requires : tie.Need-fresh-requires
 fresh-requires c κs = (c .before .before .before .if1 .left, size-at _ (sym (c .before .before .is-pool-size .ensures) ∙ not-false _ (c .before .if2 .left)) .1)
 
--- src/lib.rt:96:1
 same-length : tie.Need-same-length
 same-length c = search needs
 
--- src/lib.rt:96:1
 returns-3 : tie.Need-returns-3
 returns-3 c = set-up-done _ _ (c .before .before .before .before .before .before .if1 .left) _ (sym (c .before .before .before .before .before .is-pool-size .ensures) ∙ not-false _ (c .before .before .before .before .if2 .left)) (c .before .before .fresh .ensures)
 

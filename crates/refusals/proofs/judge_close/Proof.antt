@@ -10,27 +10,21 @@ use Rattle.words.proofs.RowLaws.{none-first, stops, refused-then, judged-then}
 use Rattle.refusals.specs.Inner.{shared}
 use Rattle.refusals.proofs.VerdictLaws.{shared-order, shared-shown, close-parts}
 
--- src/lib.rt:163:9
 judge-shared-requires : tie.Need-judge-shared-requires
 judge-shared-requires c κs = search needs
 
--- src/lib.rt:164:9
 outcome-requires : tie.Need-outcome-requires
 outcome-requires c κs = search needs
 
--- src/lib.rt:166:9
 returns : tie.Need-returns
 returns c = stops _ (shared-order _ _ _ _ _) _ _ (c .before .before .before .judge-shared .ensures) (c .before .before .outcome .ensures) _ (c .if1 .taken) ∙ ap refusal (sym (close-parts _ _))
 
--- src/lib.rt:168:8
 no-number-left-requires : tie.Need-no-number-left-requires
 no-number-left-requires c κs = shared-shown _ _ _ _ _ (none-first _ (shared-order _ _ _ _ _) _ _ (c .before .before .before .judge-shared .ensures) (c .before .before .outcome .ensures) (c .if1 .left)) .lengths .control
 
--- src/lib.rt:169:9
 returns-2 : tie.Need-returns-2
 returns-2 c = refused-then _ (shared-order _ _ _ _ _) _ _ (c .before .before .before .before .before .judge-shared .ensures) (c .before .before .before .before .outcome .ensures) _ _ (c .before .before .if1 .left) (refused _ _ _ _ (sym (c .before .no-number-left .ensures) ∙ (c .if2 .taken))) ∙ ap refusal (sym (close-parts _ _))
 
--- src/lib.rt:154:1
 returns-3 : tie.Need-returns-3
 returns-3 c = judged-then _ (shared-order _ _ _ _ _) _ _ (c .before .before .before .before .before .judge-shared .ensures) (c .before .before .before .before .outcome .ensures) _ (c .before .before .if1 .left) (passed _ _ _ _ (sym (c .before .no-number-left .ensures) ∙ (c .if2 .left)) ∙ decided _) ∙ ap refusal (sym (close-parts _ _))
 

@@ -11,35 +11,27 @@ use Rattle.refusals.specs.Inner.{ofTables}
 use Rattle.layout.proofs.CallLaws.{open-by}
 use Rattle.refusals.proofs.VerdictLaws.{tables-order, tables-shown, open-parts}
 
--- src/lib.rt:140:9
 judge-tables-requires : tie.Need-judge-tables-requires
 judge-tables-requires c κs = search needs
 
--- src/lib.rt:141:9
 outcome-requires : tie.Need-outcome-requires
 outcome-requires c κs = search needs
 
--- src/lib.rt:143:9
 returns : tie.Need-returns
 returns c = stops (ofTables _) (tables-order _) _ _ (c .before .before .before .judge-tables .ensures) (c .before .before .outcome .ensures) _ (c .if1 .taken) ∙ ap refusal (sym (open-parts _ _))
 
--- src/lib.rt:146:9
 returns-2 : tie.Need-returns-2
 returns-2 c = refused-then (ofTables _) (tables-order _) _ _ (c .before .before .before .before .judge-tables .ensures) (c .before .before .before .outcome .ensures) _ _ (c .before .if1 .left) (refused _ _ _ _ (lt-ltb _ _ (c .if2 .taken))) ∙ ap refusal (sym (open-parts _ _))
 
--- src/lib.rt:148:25
 open-mask-requires : tie.Need-open-mask-requires
 open-mask-requires c κs = tables-shown _ (none-first (ofTables _) (tables-order _) _ _ (c .before .before .before .before .judge-tables .ensures) (c .before .before .before .outcome .ensures) (c .before .if1 .left)) .0 .control
 
--- src/lib.rt:148:8
 is-open-requires : tie.Need-is-open-requires
 is-open-requires c κs = (c .before .if2 .left)
 
--- src/lib.rt:149:9
 returns-3 : tie.Need-returns-3
 returns-3 c = refused-then (ofTables _) (tables-order _) _ _ (c .before .before .before .before .before .before .before .judge-tables .ensures) (c .before .before .before .before .before .before .outcome .ensures) _ _ (c .before .before .before .before .if1 .left) (passed _ _ _ _ (le-ltb _ _ (c .before .before .before .if2 .left)) ∙ refused _ _ _ _ (open-by _ _ _ _ (c .before .before .open-mask .ensures) (c .before .is-open .ensures) ∙ (c .if3 .taken))) ∙ ap refusal (sym (open-parts _ _))
 
--- src/lib.rt:131:1
 returns-4 : tie.Need-returns-4
 returns-4 c = judged-then (ofTables _) (tables-order _) _ _ (c .before .before .before .before .before .before .before .judge-tables .ensures) (c .before .before .before .before .before .before .outcome .ensures) _ (c .before .before .before .before .if1 .left) (passed _ _ _ _ (le-ltb _ _ (c .before .before .before .if2 .left)) ∙ passed _ _ _ _ (open-by _ _ _ _ (c .before .before .open-mask .ensures) (c .before .is-open .ensures) ∙ (c .if3 .left)) ∙ decided _) ∙ ap refusal (sym (open-parts _ _))
 

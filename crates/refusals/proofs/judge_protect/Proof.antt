@@ -10,59 +10,45 @@ use Rattle.words.proofs.RowLaws.{none-first, stops, refused-then, judged-then}
 use Rattle.refusals.specs.Inner.{shared}
 use Rattle.refusals.proofs.VerdictLaws.{shared-order, shared-shown, protect-parts, all-by}
 
--- src/lib.rt:214:9
 judge-shared-requires : tie.Need-judge-shared-requires
 judge-shared-requires c κs = search needs
 
--- src/lib.rt:215:9
 outcome-requires : tie.Need-outcome-requires
 outcome-requires c κs = search needs
 
--- src/lib.rt:217:9
 returns : tie.Need-returns
 returns c = stops _ (shared-order _ _ _ _ _) _ _ (c .before .before .before .judge-shared .ensures) (c .before .before .outcome .ensures) _ (c .if1 .taken) ∙ ap refusal (sym (protect-parts _ _ _ _ _))
 
--- src/lib.rt:219:13
 mul-a : tie.Need-mul-a
 mul-a c = search needs
 
--- src/lib.rt:220:13
 add-e : tie.Need-add-e
 add-e c = search needs
 
--- src/lib.rt:221:20
 mul-all-mapped : tie.Need-mul-all-mapped
 mul-all-mapped c = let w = shared-shown _ _ _ _ _ (none-first _ (shared-order _ _ _ _ _) _ _ (c .before .before .before .judge-shared .ensures) (c .before .before .outcome .ensures) (c .if1 .left)) in let l = w .lengths .pages in let h = w .space in search needs
 
--- src/lib.rt:221:20
 sub-all-mapped : tie.Need-sub-all-mapped
 sub-all-mapped c = let w = shared-shown _ _ _ _ _ (none-first _ (shared-order _ _ _ _ _) _ _ (c .before .before .before .judge-shared .ensures) (c .before .before .outcome .ensures) (c .if1 .left)) in let l = w .lengths .pages in let h = w .space in search needs
 
--- src/lib.rt:221:20
 part-all-mapped-start : tie.Need-part-all-mapped-start
 part-all-mapped-start c = let w = shared-shown _ _ _ _ _ (none-first _ (shared-order _ _ _ _ _) _ _ (c .before .before .before .judge-shared .ensures) (c .before .before .outcome .ensures) (c .if1 .left)) in let l = w .lengths .pages in let h = w .space in search needs
 
--- src/lib.rt:221:20
 part-all-mapped-end : tie.Need-part-all-mapped-end
 part-all-mapped-end c = let w = shared-shown _ _ _ _ _ (none-first _ (shared-order _ _ _ _ _) _ _ (c .before .before .before .judge-shared .ensures) (c .before .before .outcome .ensures) (c .if1 .left)) in let l = w .lengths .pages in let h = w .space in search needs
 
--- src/lib.rt:221:9
 all-mapped-requires : tie.Need-all-mapped-requires
 all-mapped-requires c κs = let w = shared-shown _ _ _ _ _ (none-first _ (shared-order _ _ _ _ _) _ _ (c .before .before .before .before .judge-shared .ensures) (c .before .before .before .outcome .ensures) (c .before .if1 .left)) in let l = w .lengths .pages in let h = w .space in let r = w .room in search needs
 
--- src/lib.rt:222:9
 returns-2 : tie.Need-returns-2
 returns-2 c = refused-then _ (shared-order _ _ _ _ _) _ _ (c .before .before .before .before .before .before .judge-shared .ensures) (c .before .before .before .before .before .outcome .ensures) _ _ (c .before .before .before .if1 .left) (refused _ _ _ _ (ap not (all-by _ _ _ _ _ (c .before .all-mapped .ensures) ∙ not-true _ (c .if2 .taken)))) ∙ ap refusal (sym (protect-parts _ _ _ _ _))
 
--- src/lib.rt:224:8
 no-number-left-requires : tie.Need-no-number-left-requires
 no-number-left-requires c κs = (shared-shown _ _ _ _ _ (none-first _ (shared-order _ _ _ _ _) _ _ (c .before .before .before .before .before .before .judge-shared .ensures) (c .before .before .before .before .before .outcome .ensures) (c .before .before .before .if1 .left))) .lengths .control
 
--- src/lib.rt:225:9
 returns-3 : tie.Need-returns-3
 returns-3 c = refused-then _ (shared-order _ _ _ _ _) _ _ (c .before .before .before .before .before .before .before .before .judge-shared .ensures) (c .before .before .before .before .before .before .before .outcome .ensures) _ _ (c .before .before .before .before .before .if1 .left) (passed _ _ _ _ (ap not (all-by _ _ _ _ _ (c .before .before .before .all-mapped .ensures) ∙ not-false _ (c .before .before .if2 .left))) ∙ refused _ _ _ _ (sym (c .before .no-number-left .ensures) ∙ (c .if3 .taken))) ∙ ap refusal (sym (protect-parts _ _ _ _ _))
 
--- src/lib.rt:202:1
 returns-4 : tie.Need-returns-4
 returns-4 c = judged-then _ (shared-order _ _ _ _ _) _ _ (c .before .before .before .before .before .before .before .before .judge-shared .ensures) (c .before .before .before .before .before .before .before .outcome .ensures) _ (c .before .before .before .before .before .if1 .left) (passed _ _ _ _ (ap not (all-by _ _ _ _ _ (c .before .before .before .all-mapped .ensures) ∙ not-false _ (c .before .before .if2 .left))) ∙ passed _ _ _ _ (sym (c .before .no-number-left .ensures) ∙ (c .if3 .left)) ∙ decided _) ∙ ap refusal (sym (protect-parts _ _ _ _ _))
 

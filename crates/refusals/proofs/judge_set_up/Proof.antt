@@ -9,26 +9,21 @@ use Rattle.words.proofs.RefusalLaws.{refused, passed, decided}
 use Rattle.layout.specs.Calls.{sizedRow, row}
 use Rattle.refusals.proofs.VerdictLaws.{size-low, size-high, size-right}
 
--- src/lib.rt:116:9
 right-lengths-requires : tie.Need-right-lengths-requires
 right-lengths-requires c κs = search needs
 
--- src/lib.rt:117:9
 returns : tie.Need-returns
 unfolding numberOf row after sizedRow
 returns c = ap refusal (sym (refused _ _ _ _ (ap not (sym (c .before .right-lengths .ensures) ∙ not-true _ (c .if1 .taken)))))
 
--- src/lib.rt:120:9
 returns-2 : tie.Need-returns-2
 unfolding numberOf row after sizedRow
 returns-2 c = ap refusal (sym (passed _ _ _ _ (ap not (sym (c .before .before .right-lengths .ensures) ∙ not-false _ (c .before .if1 .left))) ∙ refused _ _ _ _ (size-low _ (c .if2 .taken))))
 
--- src/lib.rt:123:9
 returns-3 : tie.Need-returns-3
 unfolding numberOf row after sizedRow
 returns-3 c = ap refusal (sym (passed _ _ _ _ (ap not (sym (c .before .before .before .right-lengths .ensures) ∙ not-false _ (c .before .before .if1 .left))) ∙ refused _ _ _ _ (size-high _ (c .before .if2 .left) (c .if3 .taken))))
 
--- src/lib.rt:107:1
 returns-4 : tie.Need-returns-4
 unfolding numberOf row after sizedRow
 returns-4 c = ap refusal (sym (passed _ _ _ _ (ap not (sym (c .before .before .before .right-lengths .ensures) ∙ not-false _ (c .before .before .if1 .left))) ∙ passed _ _ _ _ (size-right _ (c .before .if2 .left) (c .if3 .left)) ∙ decided _))

@@ -7,24 +7,19 @@ use Rattle.refusals.specs.Inner.{ofTables, ofSpan, shared}
 use Rattle.refusals.proofs.VerdictLaws.{tables-order, tables-shown}
 use Rattle.words.proofs.RowLaws.{none-first, stops, goes-on}
 
--- src/lib.rt:91:9
 judge-tables-requires : tie.Need-judge-tables-requires
 judge-tables-requires c κs = search needs
 
--- src/lib.rt:92:9
 outcome-requires : tie.Need-outcome-requires
 outcome-requires c κs = search needs
 
--- src/lib.rt:94:9
 returns : tie.Need-returns
 unfolding shared
 returns c = stops (ofTables _) (tables-order _) _ _ (c .before .before .before .judge-tables .ensures) (c .before .before .outcome .ensures) _ (c .if1 .taken)
 
--- src/lib.rt:96:5
 judge-span-requires : tie.Need-judge-span-requires
 judge-span-requires c κs = tables-shown _ (none-first (ofTables _) (tables-order _) _ _ (c .before .before .before .judge-tables .ensures) (c .before .before .outcome .ensures) (c .if1 .left)) .0 .control
 
--- src/lib.rt:79:1
 returns-2 : tie.Need-returns-2
 unfolding shared
 returns-2 c = (c .judge-span .ensures) ∙ ap refusal (sym (goes-on (ofTables _) (tables-order _) _ _ (c .before .before .before .before .judge-tables .ensures) (c .before .before .before .outcome .ensures) (ofSpan _ _ _ _ _) (c .before .if1 .left)))

@@ -9,25 +9,20 @@ use Rattle.words.proofs.RefusalLaws.{refused, passed, decided}
 use Rattle.layout.proofs.SoundLaws.{lengths-at}
 use Rattle.refusals.specs.Inner.{ofTables}
 
--- src/lib.rt:66:9
 right-lengths-requires : tie.Need-right-lengths-requires
 right-lengths-requires c κs = search needs
 
--- src/lib.rt:67:9
 returns : tie.Need-returns
 unfolding ofTables
 returns c = ap refusal (sym (refused _ _ _ _ (ap not (sym (c .before .right-lengths .ensures) ∙ not-true _ (c .if1 .taken)))))
 
--- src/lib.rt:69:9
 tables-sound-requires : tie.Need-tables-sound-requires
 tables-sound-requires c κs = let l = lengths-at _ (sym (c .before .right-lengths .ensures) ∙ not-false _ (c .if1 .left)) in (l .control, (l .frames, (l .pages, l .ranges)))
 
--- src/lib.rt:70:9
 returns-2 : tie.Need-returns-2
 unfolding ofTables
 returns-2 c = ap refusal (sym (passed _ _ _ _ (ap not (sym (c .before .before .before .right-lengths .ensures) ∙ not-false _ (c .before .before .if1 .left))) ∙ refused _ _ _ _ (ap not (sym (c .before .tables-sound .ensures) ∙ not-true _ (c .if2 .taken)))))
 
--- src/lib.rt:63:1
 returns-3 : tie.Need-returns-3
 unfolding ofTables
 returns-3 c = ap refusal (sym (passed _ _ _ _ (ap not (sym (c .before .before .before .right-lengths .ensures) ∙ not-false _ (c .before .before .if1 .left))) ∙ passed _ _ _ _ (ap not (sym (c .before .tables-sound .ensures) ∙ not-false _ (c .if2 .left))) ∙ decided _))

@@ -5,11 +5,9 @@ use mathlib.Core.Path.{ap, sym, _∙_}
 use Rattle.words.specs.Rows.{refusal}
 use Rattle.refusals.proofs.VerdictLaws.{unmap-parts}
 
--- src/lib.rt:242:5
 judge-protect-requires : tie.Need-judge-protect-requires
 judge-protect-requires c κs = search needs
 
--- src/lib.rt:231:1
 returns : tie.Need-returns
 returns c = (c .judge-protect .ensures) ∙ ap refusal (sym (unmap-parts _ _ _ _))
 

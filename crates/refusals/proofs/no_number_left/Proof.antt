@@ -4,11 +4,9 @@ use Rattle.refusals.proofs.no_number_left.Tie as tie
 use mathlib.Core.Path.{ap}
 use lib.Dec.{eqb}
 
--- src/lib.rt:24:5
 removal-count-requires : tie.Need-removal-count-requires
 removal-count-requires c κs = search needs
 
--- src/lib.rt:20:1
 returns : tie.Need-returns
 returns c = ap (λ m. eqb m 4294967295) (c .removal-count .ensures)
 

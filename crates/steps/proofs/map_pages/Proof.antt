@@ -5,87 +5,66 @@ use Rattle.steps.proofs.LendingLaws.{mapped-pages}
 use Rattle.steps.proofs.map_pages.Statement.{statement}
 use Rattle.steps.proofs.map_pages.Tie as tie
 
--- src/lib.rt:43:13
 mul-a : tie.Need-mul-a
 mul-a c = search needs
 
--- src/lib.rt:43:13
 cast-a : tie.Need-cast-a
 cast-a c = search needs
 
--- src/lib.rt:44:13
 add-e : tie.Need-add-e
 add-e c = search needs
 
--- src/lib.rt:45:13
 mul-b : tie.Need-mul-b
 mul-b c = search needs
 
--- src/lib.rt:46:13
 add-f : tie.Need-add-f
 add-f c = search needs
 
--- src/lib.rt:47:21
 mul-owner : tie.Need-mul-owner
 mul-owner c = search needs
 
--- src/lib.rt:47:17
 add-owner : tie.Need-add-owner
 add-owner c = search needs
 
--- src/lib.rt:47:17
 add-owner-2 : tie.Need-add-owner-2
 add-owner-2 c = search needs
 
--- src/lib.rt:50:9
 mul-map-space : tie.Need-mul-map-space
 mul-map-space c = search needs
 
--- src/lib.rt:50:9
 sub-map-space : tie.Need-sub-map-space
 sub-map-space c = search needs
 
--- src/lib.rt:50:9
 part-map-space-start : tie.Need-part-map-space-start
 part-map-space-start c = search needs
 
--- src/lib.rt:50:9
 part-map-space-end : tie.Need-part-map-space-end
 part-map-space-end c = search needs
 
--- src/lib.rt:51:9
 mul-map-space-2 : tie.Need-mul-map-space-2
 mul-map-space-2 c = search needs
 
--- src/lib.rt:51:9
 sub-map-space-2 : tie.Need-sub-map-space-2
 sub-map-space-2 c = search needs
 
--- src/lib.rt:51:9
 part-map-space-start-2 : tie.Need-part-map-space-start-2
 part-map-space-start-2 c = search needs
 
--- src/lib.rt:51:9
 part-map-space-end-2 : tie.Need-part-map-space-end-2
 part-map-space-end-2 c = search needs
 
--- src/lib.rt:48:5
 map-space-requires : tie.Need-map-space-requires
 map-space-requires c κs = let p = c .before .before .before .before .before .before .before .pre in (p .0, (search needs, (search needs, (p .1 .0, (omega arith, (omega arith, (p .1 .1 .1 .1 .1 .0, p .1 .1 .1 .1 .1 .1)))))))
 
--- src/lib.rt:22:1
 same-length : tie.Need-same-length
 same-length c = search needs
 
--- src/lib.rt:22:1
 same-length-2 : tie.Need-same-length-2
 same-length-2 c = search needs
 
--- src/lib.rt:22:1
 same-length-3 : tie.Need-same-length-3
 same-length-3 c = search needs
 
--- src/lib.rt:22:1
 returns : tie.Need-returns
 returns c = let p = c .before .before .before .before .before .before .before .before .before .before .before .before .before .before .pre in mapped-pages _ _ (p .1 .1 .0) (p .1 .1 .1 .0) _ (p .1 .1 .1 .1 .0) _ _ _ _ refl refl _ _ _ _ _ _ _ (c .before .before .before .before .before .before .map-space .ensures)
 

@@ -4,67 +4,51 @@ use Rattle.steps.proofs.protect_pages.Tie as tie
 use mathlib.Core.Path.{refl}
 use Rattle.steps.proofs.LendingLaws.{protected-pages}
 
--- src/lib.rt:80:13
 mul-a : tie.Need-mul-a
 mul-a c = search needs
 
--- src/lib.rt:81:13
 add-e : tie.Need-add-e
 add-e c = search needs
 
--- src/lib.rt:82:13
 mul-b : tie.Need-mul-b
 mul-b c = search needs
 
--- src/lib.rt:83:13
 add-f : tie.Need-add-f
 add-f c = search needs
 
--- src/lib.rt:85:9
 mul-protect-space : tie.Need-mul-protect-space
 mul-protect-space c = search needs
 
--- src/lib.rt:85:9
 sub-protect-space : tie.Need-sub-protect-space
 sub-protect-space c = search needs
 
--- src/lib.rt:85:9
 part-protect-space-start : tie.Need-part-protect-space-start
 part-protect-space-start c = search needs
 
--- src/lib.rt:85:9
 part-protect-space-end : tie.Need-part-protect-space-end
 part-protect-space-end c = search needs
 
--- src/lib.rt:86:9
 mul-protect-space-2 : tie.Need-mul-protect-space-2
 mul-protect-space-2 c = search needs
 
--- src/lib.rt:86:9
 sub-protect-space-2 : tie.Need-sub-protect-space-2
 sub-protect-space-2 c = search needs
 
--- src/lib.rt:86:9
 part-protect-space-start-2 : tie.Need-part-protect-space-start-2
 part-protect-space-start-2 c = search needs
 
--- src/lib.rt:86:9
 part-protect-space-end-2 : tie.Need-part-protect-space-end-2
 part-protect-space-end-2 c = search needs
 
--- src/lib.rt:84:5
 protect-space-requires : tie.Need-protect-space-requires
 protect-space-requires c κs = search needs
 
--- src/lib.rt:64:1
 same-length : tie.Need-same-length
 same-length c = search needs
 
--- src/lib.rt:64:1
 same-length-2 : tie.Need-same-length-2
 same-length-2 c = search needs
 
--- src/lib.rt:64:1
 returns : tie.Need-returns
 returns c = let p = c .before .before .before .before .before .before .before .before .before .pre in protected-pages _ _ (p .0) (p .1 .0) _ (p .1 .1 .0) _ _ _ _ refl refl _ _ _ _ (c .before .before .before .before .protect-space .ensures)
 

@@ -4,67 +4,51 @@ use Rattle.steps.proofs.unmap_pages.Tie as tie
 use mathlib.Core.Path.{refl}
 use Rattle.steps.proofs.LendingLaws.{unmapped-pages}
 
--- src/lib.rt:56:13
 mul-a : tie.Need-mul-a
 mul-a c = search needs
 
--- src/lib.rt:57:13
 add-e : tie.Need-add-e
 add-e c = search needs
 
--- src/lib.rt:58:13
 mul-b : tie.Need-mul-b
 mul-b c = search needs
 
--- src/lib.rt:59:13
 add-f : tie.Need-add-f
 add-f c = search needs
 
--- src/lib.rt:60:24
 mul-unmap-space : tie.Need-mul-unmap-space
 mul-unmap-space c = search needs
 
--- src/lib.rt:60:24
 sub-unmap-space : tie.Need-sub-unmap-space
 sub-unmap-space c = search needs
 
--- src/lib.rt:60:24
 part-unmap-space-start : tie.Need-part-unmap-space-start
 part-unmap-space-start c = search needs
 
--- src/lib.rt:60:24
 part-unmap-space-end : tie.Need-part-unmap-space-end
 part-unmap-space-end c = search needs
 
--- src/lib.rt:60:42
 mul-unmap-space-2 : tie.Need-mul-unmap-space-2
 mul-unmap-space-2 c = search needs
 
--- src/lib.rt:60:42
 sub-unmap-space-2 : tie.Need-sub-unmap-space-2
 sub-unmap-space-2 c = search needs
 
--- src/lib.rt:60:42
 part-unmap-space-start-2 : tie.Need-part-unmap-space-start-2
 part-unmap-space-start-2 c = search needs
 
--- src/lib.rt:60:42
 part-unmap-space-end-2 : tie.Need-part-unmap-space-end-2
 part-unmap-space-end-2 c = search needs
 
--- src/lib.rt:60:5
 unmap-space-requires : tie.Need-unmap-space-requires
 unmap-space-requires c κs = search needs
 
--- src/lib.rt:42:1
 same-length : tie.Need-same-length
 same-length c = search needs
 
--- src/lib.rt:42:1
 same-length-2 : tie.Need-same-length-2
 same-length-2 c = search needs
 
--- src/lib.rt:42:1
 returns : tie.Need-returns
 returns c = let p = c .before .before .before .before .before .before .before .before .before .pre in unmapped-pages _ _ (p .0) (p .1 .0) _ (p .1 .1 .0) _ _ _ _ refl refl _ _ _ (c .before .before .before .before .unmap-space .ensures)
 

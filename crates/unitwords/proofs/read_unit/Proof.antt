@@ -3,31 +3,24 @@ use borrow.Author.Needs.{needs}
 use Rattle.unitwords.proofs.read_unit.Statement.{statement}
 use Rattle.unitwords.proofs.read_unit.Tie as tie
 
--- src/lib.rt:76:9
 emptied-requires : tie.Need-emptied-requires
 emptied-requires c κs = search needs
 
--- src/lib.rt:77:9
 with-pages-requires : tie.Need-with-pages-requires
 with-pages-requires c κs = search needs
 
--- src/lib.rt:78:9
 with-ranges-requires : tie.Need-with-ranges-requires
 with-ranges-requires c κs = search needs
 
--- src/lib.rt:79:14
 shared-slice-read-u : tie.Need-shared-slice-read-u
 shared-slice-read-u c = search needs
 
--- src/lib.rt:80:14
 shared-slice-read-u-2 : tie.Need-shared-slice-read-u-2
 shared-slice-read-u-2 c = search needs
 
--- src/lib.rt:81:14
 shared-slice-read-u-3 : tie.Need-shared-slice-read-u-3
 shared-slice-read-u-3 c = search needs
 
--- src/lib.rt:72:1
 returns : tie.Need-returns
 returns c = read-all (c .before .before .before .before .before .before .before .args .words .now) (c .before .before .before .before .before .emptied .result) _ _ (c .before .before .before .before .with-pages .ensures) (c .before .before .before .with-ranges .ensures)
 

@@ -16,35 +16,27 @@ Inv-loop words v₀ k₀ v k = (k ≤ 64) × ((length (v₀ .pages) ≡ 64) × (
 abbrev μ-loop : tie.MeasureT-loop
 μ-loop words v₀ k₀ v k = 64 - k
 
--- src/lib.rt:51:5
 loop-holds : tie.Need-loop-holds Inv-loop μ-loop
 loop-holds c = (omega arith, (rw length-map at (c .before .good .0 .1 .1 .0 .1 .0 .1), ap (withPages (c .before .args .u)) (none-tabled _ _)))
 
--- src/lib.rt:52:13
 page-at-requires : tie.Need-page-at-requires Inv-loop μ-loop
 page-at-requires c κs = search needs
 
--- src/lib.rt:53:9
 mul-e : tie.Need-mul-e Inv-loop μ-loop
 mul-e c = search needs
 
--- src/lib.rt:53:9
 element-set-from-e : tie.Need-element-set-from-e Inv-loop μ-loop
 element-set-from-e c = search needs
 
--- src/lib.rt:51:9
 add-k : tie.Need-add-k Inv-loop μ-loop
 add-k c = search needs
 
--- src/lib.rt:51:5
 loop-less : tie.Need-loop-less Inv-loop μ-loop
 loop-less c = search needs
 
--- src/lib.rt:51:5
 loop-again : tie.Need-loop-again Inv-loop μ-loop
 loop-again c = (omega arith, (c .before .before .loop .inv .1 .0, next-page _ _ _ _ _ noPage (c .before .before .loop .inv .1 .1) (omega arith) (c .page-at .ensures)))
 
--- src/lib.rt:46:1
 returns : tie.Need-returns Inv-loop μ-loop
 returns c = c .before .loop .inv .1 .1 ∙ ap (withPages (c .before .before .before .args .u)) (all-tabled _ _ 64 _ (omega arith) (c .before .loop .inv .1 .0))
 

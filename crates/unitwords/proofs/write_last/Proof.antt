@@ -4,23 +4,18 @@ use borrow.Author.Needs.{needs}
 use Rattle.unitwords.proofs.write_last.Statement.{statement}
 use Rattle.unitwords.proofs.write_last.Tie as tie
 
--- src/lib.rt:115:5
 slice-write-place : tie.Need-slice-write-place
 slice-write-place c = search needs
 
--- src/lib.rt:116:5
 slice-write-place-2 : tie.Need-slice-write-place-2
 slice-write-place-2 c = search needs
 
--- src/lib.rt:117:5
 slice-write-place-3 : tie.Need-slice-write-place-3
 slice-write-place-3 c = search needs
 
--- src/lib.rt:111:1
 same-length : tie.Need-same-length
 same-length c = search needs
 
--- src/lib.rt:111:1
 returns : tie.Need-returns
 returns c = put-all (wordsBehindEntries (c .args .u)) (c .args .place .now) (c .pre)
 

@@ -4,31 +4,24 @@ use borrow.Author.Needs.{needs}
 use Rattle.unitwords.proofs.write_page.Statement.{statement}
 use Rattle.unitwords.proofs.write_page.Tie as tie
 
--- src/lib.rt:90:5
 slice-write-place : tie.Need-slice-write-place
 slice-write-place c = search needs
 
--- src/lib.rt:91:5
 slice-write-place-2 : tie.Need-slice-write-place-2
 slice-write-place-2 c = search needs
 
--- src/lib.rt:92:5
 slice-write-place-3 : tie.Need-slice-write-place-3
 slice-write-place-3 c = search needs
 
--- src/lib.rt:93:5
 slice-write-place-4 : tie.Need-slice-write-place-4
 slice-write-place-4 c = search needs
 
--- src/lib.rt:94:5
 slice-write-place-5 : tie.Need-slice-write-place-5
 slice-write-place-5 c = search needs depth 8
 
--- src/lib.rt:86:1
 same-length : tie.Need-same-length
 same-length c = search needs
 
--- src/lib.rt:86:1
 returns : tie.Need-returns
 returns c = put-all (pageEntryWords (c .args .e)) (c .args .place .now) (c .pre)
 

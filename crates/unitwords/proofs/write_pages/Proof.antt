@@ -15,64 +15,49 @@ Inv-loop words₀ u k₀ words k = (k ≤ 64) × ((length (u .pages) ≡ 64) × 
 abbrev μ-loop : tie.MeasureT-loop
 μ-loop words₀ u k₀ words k = 64 - k
 
--- src/lib.rt:125:5
 loop-holds : tie.Need-loop-holds Inv-loop μ-loop
 loop-holds c = (omega arith, (rw length-map at (c .before .good .1 .0 .1 .1 .0 .1 .0 .1), (c .before .pre, none-written pageEntryWords 5 (λ x. refl) _ _)))
 
--- src/lib.rt:126:17
 mul-e : tie.Need-mul-e Inv-loop μ-loop
 mul-e c = search needs
 
--- src/lib.rt:126:17
 element-copy-out-e : tie.Need-element-copy-out-e Inv-loop μ-loop
 element-copy-out-e c = search needs
 
--- src/lib.rt:127:17
 mul-a : tie.Need-mul-a Inv-loop μ-loop
 mul-a c = search needs
 
--- src/lib.rt:128:17
 add-z : tie.Need-add-z Inv-loop μ-loop
 add-z c = search needs
 
--- src/lib.rt:129:20
 mul-write-page : tie.Need-mul-write-page Inv-loop μ-loop
 mul-write-page c = search needs
 
--- src/lib.rt:129:20
 sub-write-page : tie.Need-sub-write-page Inv-loop μ-loop
 sub-write-page c = search needs
 
--- src/lib.rt:129:20
 part-write-page-start : tie.Need-part-write-page-start Inv-loop μ-loop
 part-write-page-start c = search needs
 
--- src/lib.rt:129:20
 part-write-page-end : tie.Need-part-write-page-end Inv-loop μ-loop
 part-write-page-end c = search needs
 
--- src/lib.rt:129:9
 write-page-requires : tie.Need-write-page-requires Inv-loop μ-loop
 write-page-requires c κs = search needs
 
--- src/lib.rt:125:9
 add-k : tie.Need-add-k Inv-loop μ-loop
 add-k c = search needs
 
--- src/lib.rt:125:5
 loop-less : tie.Need-loop-less Inv-loop μ-loop
 loop-less c = search needs
 
--- src/lib.rt:125:5
 loop-again : tie.Need-loop-again Inv-loop μ-loop
 unfolding noPage
 loop-again c = let k : ℕ = c .before .before .before .before .before .before .loop .k in let i = c .before .before .before .before .before .before .loop .inv in (omega arith, (i .1 .0, (omega arith, one-written pageEntryWords 5 (λ x. refl) _ _ k (5 * k) ((5 * k + 5) - 5 * k) noPage _ _ _ (omega arith) refl (omega arith) (i .1 .1 .1) refl (c .before .before .write-page .ensures))))
 
--- src/lib.rt:121:1
 same-length : tie.Need-same-length Inv-loop μ-loop
 same-length c = search needs
 
--- src/lib.rt:121:1
 returns : tie.Need-returns Inv-loop μ-loop
 returns c = c .before .loop .inv .1 .1 .1 ∙ all-written pageEntryWords 5 (λ x. refl) _ _ 64 _ (omega arith) (c .before .loop .inv .1 .0) (c .before .before .before .pre)
 

@@ -4,35 +4,27 @@ use borrow.Author.Needs.{needs}
 use Rattle.unitwords.proofs.write_range.Statement.{statement}
 use Rattle.unitwords.proofs.write_range.Tie as tie
 
--- src/lib.rt:102:5
 slice-write-place : tie.Need-slice-write-place
 slice-write-place c = search needs
 
--- src/lib.rt:103:5
 slice-write-place-2 : tie.Need-slice-write-place-2
 slice-write-place-2 c = search needs
 
--- src/lib.rt:104:5
 slice-write-place-3 : tie.Need-slice-write-place-3
 slice-write-place-3 c = search needs
 
--- src/lib.rt:105:5
 slice-write-place-4 : tie.Need-slice-write-place-4
 slice-write-place-4 c = search needs
 
--- src/lib.rt:106:5
 slice-write-place-5 : tie.Need-slice-write-place-5
 slice-write-place-5 c = search needs depth 8
 
--- src/lib.rt:107:5
 slice-write-place-6 : tie.Need-slice-write-place-6
 slice-write-place-6 c = search needs depth 8
 
--- src/lib.rt:98:1
 same-length : tie.Need-same-length
 same-length c = search needs
 
--- src/lib.rt:98:1
 returns : tie.Need-returns
 returns c = put-all (rangeEntryWords (c .args .e)) (c .args .place .now) (c .pre)
 

@@ -15,64 +15,49 @@ Inv-loop words₀ u k₀ words k = (k ≤ 32) × ((length (u .ranges) ≡ 32) ×
 abbrev μ-loop : tie.MeasureT-loop
 μ-loop words₀ u k₀ words k = 32 - k
 
--- src/lib.rt:138:5
 loop-holds : tie.Need-loop-holds Inv-loop μ-loop
 loop-holds c = (omega arith, (rw length-map at (c .before .good .1 .0 .1 .1 .1 .0 .1 .0 .1), (c .before .pre, none-written rangeEntryWords 6 (λ x. refl) _ _)))
 
--- src/lib.rt:139:17
 mul-e : tie.Need-mul-e Inv-loop μ-loop
 mul-e c = search needs
 
--- src/lib.rt:139:17
 element-copy-out-e : tie.Need-element-copy-out-e Inv-loop μ-loop
 element-copy-out-e c = search needs
 
--- src/lib.rt:140:17
 mul-a : tie.Need-mul-a Inv-loop μ-loop
 mul-a c = search needs
 
--- src/lib.rt:141:17
 add-z : tie.Need-add-z Inv-loop μ-loop
 add-z c = search needs
 
--- src/lib.rt:142:21
 mul-write-range : tie.Need-mul-write-range Inv-loop μ-loop
 mul-write-range c = search needs
 
--- src/lib.rt:142:21
 sub-write-range : tie.Need-sub-write-range Inv-loop μ-loop
 sub-write-range c = search needs
 
--- src/lib.rt:142:21
 part-write-range-start : tie.Need-part-write-range-start Inv-loop μ-loop
 part-write-range-start c = search needs
 
--- src/lib.rt:142:21
 part-write-range-end : tie.Need-part-write-range-end Inv-loop μ-loop
 part-write-range-end c = search needs
 
--- src/lib.rt:142:9
 write-range-requires : tie.Need-write-range-requires Inv-loop μ-loop
 write-range-requires c κs = search needs
 
--- src/lib.rt:138:9
 add-k : tie.Need-add-k Inv-loop μ-loop
 add-k c = search needs
 
--- src/lib.rt:138:5
 loop-less : tie.Need-loop-less Inv-loop μ-loop
 loop-less c = search needs
 
--- src/lib.rt:138:5
 loop-again : tie.Need-loop-again Inv-loop μ-loop
 unfolding noRange
 loop-again c = let k : ℕ = c .before .before .before .before .before .before .loop .k in let i = c .before .before .before .before .before .before .loop .inv in (omega arith, (i .1 .0, (omega arith, one-written rangeEntryWords 6 (λ x. refl) _ _ k (6 * k) ((6 * k + 6) - 6 * k) noRange _ _ _ (omega arith) refl (omega arith) (i .1 .1 .1) refl (c .before .before .write-range .ensures))))
 
--- src/lib.rt:134:1
 same-length : tie.Need-same-length Inv-loop μ-loop
 same-length c = search needs
 
--- src/lib.rt:134:1
 returns : tie.Need-returns Inv-loop μ-loop
 returns c = c .before .loop .inv .1 .1 .1 ∙ all-written rangeEntryWords 6 (λ x. refl) _ _ 32 _ (omega arith) (c .before .loop .inv .1 .0) (c .before .before .before .pre)
 

@@ -13,35 +13,27 @@ use Rattle.coretrace.proofs.input.read_on.Reads as read-on-reads
 use Rattle.records.proofs.ready.Reads as ready-reads
 use Rattle.coretrace.proofs.input.shift.Reads as shift-reads
 
--- src/input.rt:102:8
 ready-requires : tie.Need-ready-requires
 ready-requires c κs = search needs
 
--- src/input.rt:103:9
 same-length : tie.Need-same-length
 same-length c = search needs
 
--- src/input.rt:103:9
 returns : tie.Need-returns
 returns c = (omega arith, (omega arith, (as-before (c .before .before .before .before .args .w) (c .before .before .before .before .args .buffer .now), λ h. (refl, refl))))
 
--- src/input.rt:105:5
 shift-requires : tie.Need-shift-requires
 shift-requires c κs = search needs
 
--- src/input.rt:106:29
 sub-read-on : tie.Need-sub-read-on
 sub-read-on c = search needs
 
--- src/input.rt:106:9
 read-on-requires : tie.Need-read-on-requires
 read-on-requires c κs = search needs
 
--- src/input.rt:93:1
 same-length-2 : tie.Need-same-length-2
 same-length-2 c = search needs
 
--- src/input.rt:93:1
 returns-2 : tie.Need-returns-2
 returns-2 c =
     let a = c .before .before .before .before .before .before .before .before .before .before .before .before .before .args in

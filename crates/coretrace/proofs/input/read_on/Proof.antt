@@ -18,57 +18,45 @@ Inv-loop buffer₀ n to₀ buffer to = (length buffer ≡ length buffer₀) × (
 abbrev μ-loop : tie.MeasureT-loop
 μ-loop buffer₀ n to₀ buffer to = length buffer₀ - to
 
--- src/input.rt:82:5
 loop-holds : tie.Need-loop-holds Inv-loop μ-loop
 loop-holds c = (refl, (omega arith, (omega arith, refl)))
 
--- src/input.rt:82:20
 slice-reshare-prefix-standing : tie.Need-slice-reshare-prefix-standing Inv-loop μ-loop
 slice-reshare-prefix-standing c = search needs
 
--- src/input.rt:82:20
 slice-aggregate-standing : tie.Need-slice-aggregate-standing Inv-loop μ-loop
 slice-aggregate-standing c = sym (length-take-le (c .before .loop .to) (c .before .loop .buffer) (omega arith))
 
--- src/input.rt:82:11
 standing-requires : tie.Need-standing-requires Inv-loop μ-loop
 standing-requires c κs = search needs
 
--- src/input.rt:83:13
 read-to-requires : tie.Need-read-to-requires Inv-loop μ-loop
 read-to-requires c κs =
     let e : length (take (c .before .before .before .before .loop .to) (c .before .before .before .before .loop .buffer)) ≡ c .before .before .before .before .loop .to = length-take-le (c .before .before .before .before .loop .to) (c .before .before .before .before .loop .buffer) (omega arith) in
     let s = c .before .before .standing .ensures .1 .1 (c .before .if1 .taken) in
     omega arith
 
--- src/input.rt:87:9
 add-to : tie.Need-add-to Inv-loop μ-loop
 add-to c = search needs
 
--- src/input.rt:82:5
 loop-less : tie.Need-loop-less Inv-loop μ-loop
 loop-less c = search needs
 
--- src/input.rt:82:5
 loop-again : tie.Need-loop-again Inv-loop μ-loop
 loop-again c = (
   omega arith,
   (omega arith, (omega arith, shorter (c .before .before .before .before .before .before .before .before .before .before .args .n) (c .before .before .before .before .before .before .before .before .loop .to) (c .before .before .before .before .before .before .before .before .loop .buffer) _ (omega arith) (c .before .before .before .read-to .ensures .1) ∙ c .before .before .before .before .before .before .before .before .loop .inv .1 .1 .1)),
 )
 
--- src/input.rt:74:1
 same-length : tie.Need-same-length Inv-loop μ-loop
 same-length c = search needs
 
--- src/input.rt:74:1
 returns : tie.Need-returns Inv-loop μ-loop
 returns c = (c .before .before .before .loop .inv .1 .0, (omega arith, c .before .before .before .loop .inv .1 .1 .1))
 
--- src/input.rt:74:1
 same-length-2 : tie.Need-same-length-2 Inv-loop μ-loop
 same-length-2 c = search needs
 
--- src/input.rt:74:1
 returns-2 : tie.Need-returns-2 Inv-loop μ-loop
 returns-2 c = (c .before .before .before .before .before .before .before .before .loop .inv .1 .0, (omega arith, shorter (c .before .before .before .before .before .before .before .before .before .before .args .n) (c .before .before .before .before .before .before .before .before .loop .to) (c .before .before .before .before .before .before .before .before .loop .buffer) _ (omega arith) (c .before .before .before .read-to .ensures .1) ∙ c .before .before .before .before .before .before .before .before .loop .inv .1 .1 .1))
 

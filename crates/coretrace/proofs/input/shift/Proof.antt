@@ -17,37 +17,29 @@ Inv-loop buffer₀ from to i₀ i-end buffer i = (length buffer ≡ length buffe
 abbrev μ-loop : tie.MeasureT-loop
 μ-loop buffer₀ from to i₀ i-end buffer i = i-end - i
 
--- src/input.rt:58:17
 sub-i-end : tie.Need-sub-i-end Inv-loop μ-loop
 sub-i-end c = search needs
 
--- src/input.rt:58:5
 loop-holds : tie.Need-loop-holds Inv-loop μ-loop
 loop-holds c =
     let a = c .args in
     (refl, (refl, (omega arith, paste-zero (a .buffer .now) 0 (drop (a .from) (a .buffer .now)))))
 
--- src/input.rt:59:26
 add-buffer : tie.Need-add-buffer Inv-loop μ-loop
 add-buffer c = search needs
 
--- src/input.rt:59:20
 slice-read-buffer : tie.Need-slice-read-buffer Inv-loop μ-loop
 slice-read-buffer c = search needs
 
--- src/input.rt:59:9
 slice-write-buffer : tie.Need-slice-write-buffer Inv-loop μ-loop
 slice-write-buffer c = search needs
 
--- src/input.rt:58:9
 add-i : tie.Need-add-i Inv-loop μ-loop
 add-i c = search needs
 
--- src/input.rt:58:5
 loop-less : tie.Need-loop-less Inv-loop μ-loop
 loop-less c = search needs
 
--- src/input.rt:58:5
 loop-again : tie.Need-loop-again Inv-loop μ-loop
 loop-again c =
     let l = c .before .before .loop in
@@ -62,11 +54,9 @@ loop-again c =
       ),
     )
 
--- src/input.rt:53:1
 same-length : tie.Need-same-length Inv-loop μ-loop
 same-length c = search needs
 
--- src/input.rt:53:1
 returns : tie.Need-returns Inv-loop μ-loop
 returns c =
     let l = c .before .loop in

@@ -8,15 +8,12 @@ use Rattle.coretrace.proofs.output.send.Reads as reads
 use Rattle.coretrace.proofs.output.send.Lts as lts
 use Rattle.io.proofs.write_all.Reads as write-all-reads
 
--- src/output.rt:19:34
 slice-aggregate-write-all : tie.Need-slice-aggregate-write-all
 slice-aggregate-write-all c = sym (length-take-le (c .before .before .args .held) (c .before .before .args .lines .now) (omega arith))
 
--- src/output.rt:19:5
 write-all-requires : tie.Need-write-all-requires
 write-all-requires c κs = search needs
 
--- src/output.rt:16:1
 returns : tie.Need-returns
 returns c = search needs
 

@@ -22,15 +22,12 @@ Inv-loop frames from end g₀ g = PassTo (freeIn frames) from end g
 abbrev μ-loop : tie.MeasureT-loop
 μ-loop frames from end g₀ g = end - g
 
--- src/buffer.rt:102:14
 sub-if1 : tie.Need-sub-if1 Inv-loop μ-loop
 sub-if1 c = search needs
 
--- src/buffer.rt:103:9
 chunks-to-requires : tie.Need-chunks-to-requires Inv-loop μ-loop
 chunks-to-requires c κs = search needs
 
--- src/buffer.rt:105:5
 loop-holds : tie.Need-loop-holds Inv-loop μ-loop
 unfolding sought
 loop-holds c =
@@ -40,35 +37,27 @@ loop-holds c =
     (λ w. subst (PassTo free _ _) (sym (w .1)) (pass-none free _ _ (omega arith)))
     (c .if1 .came)
 
--- src/buffer.rt:106:21
 mul-owner-of : tie.Need-mul-owner-of Inv-loop μ-loop
 mul-owner-of c = search needs
 
--- src/buffer.rt:106:21
 shared-slice-read-owner-of : tie.Need-shared-slice-read-owner-of Inv-loop μ-loop
 shared-slice-read-owner-of c = search needs
 
--- src/buffer.rt:106:12
 owner-of-requires : tie.Need-owner-of-requires Inv-loop μ-loop
 owner-of-requires c κs = search needs
 
--- src/buffer.rt:107:13
 returns : tie.Need-returns Inv-loop μ-loop
 returns c = all-stop _ _ _ (c .before .before .before .before .loop-test .taken) (is-held _ _ (λ e. c .if2 .taken (c .before .owner-of .ensures ∙ e))) ∙ sym (pass-rest _ _ _ _ (c .before .before .before .before .before .loop .inv))
 
--- src/buffer.rt:109:9
 add-g : tie.Need-add-g Inv-loop μ-loop
 add-g c = search needs
 
--- src/buffer.rt:105:5
 loop-less : tie.Need-loop-less Inv-loop μ-loop
 loop-less c = search needs
 
--- src/buffer.rt:105:5
 loop-again : tie.Need-loop-again Inv-loop μ-loop
 loop-again c = pass-one _ _ _ _ (c .before .before .before .before .before .loop .inv) (c .before .before .before .before .loop-test .taken) (is-free _ _ (sym (c .before .owner-of .ensures) ∙ c .if2 .left))
 
--- src/buffer.rt:96:1
 returns-2 : tie.Need-returns-2 Inv-loop μ-loop
 returns-2 c = all-end _ _ _ (c .loop-test .left) ∙ sym (pass-rest _ _ _ _ (c .before .loop .inv))
 

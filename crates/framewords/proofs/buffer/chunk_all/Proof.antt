@@ -20,45 +20,35 @@ Inv-loop frames at held n₀ j₀ n j = (j ≤ 16) × ((n ≤ j) × (n ≡ count
 abbrev μ-loop : tie.MeasureT-loop
 μ-loop frames at held n₀ j₀ n j = 16 - j
 
--- src/buffer.rt:48:5
 loop-holds : tie.Need-loop-holds Inv-loop μ-loop
 unfolding count
 loop-holds c = (omega arith, (omega arith, refl))
 
--- src/buffer.rt:49:33
 add-one-if-sought : tie.Need-add-one-if-sought Inv-loop μ-loop
 add-one-if-sought c = search needs
 
--- src/buffer.rt:49:26
 mul-one-if-sought : tie.Need-mul-one-if-sought Inv-loop μ-loop
 mul-one-if-sought c = search needs
 
--- src/buffer.rt:49:26
 shared-slice-read-one-if-sought : tie.Need-shared-slice-read-one-if-sought Inv-loop μ-loop
 shared-slice-read-one-if-sought c = search needs
 
--- src/buffer.rt:49:14
 one-if-sought-requires : tie.Need-one-if-sought-requires Inv-loop μ-loop
 one-if-sought-requires c κs = search needs
 
--- src/buffer.rt:49:9
 add-n : tie.Need-add-n Inv-loop μ-loop
 add-n c = search needs
 
--- src/buffer.rt:50:9
 add-j : tie.Need-add-j Inv-loop μ-loop
 add-j c = search needs
 
--- src/buffer.rt:48:5
 loop-less : tie.Need-loop-less Inv-loop μ-loop
 loop-less c = search needs
 
--- src/buffer.rt:48:5
 loop-again : tie.Need-loop-again Inv-loop μ-loop
 unfolding freeIn freeOf ownersOf
 loop-again c = (omega arith, (omega arith, count-step _ _ _ _ (c .before .before .before .loop .inv .1 .1) (c .one-if-sought .ensures .0)))
 
--- src/buffer.rt:42:1
 returns : tie.Need-returns Inv-loop μ-loop
 returns c =
     let e : c .before .loop .j ≡ 16 = omega (arith, c .before .loop .inv .0) in

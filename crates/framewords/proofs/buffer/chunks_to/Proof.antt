@@ -19,35 +19,27 @@ Inv-loop frames from end held g₀ g = PassTo (λ k. sought held (freeIn frames 
 abbrev μ-loop : tie.MeasureT-loop
 μ-loop frames from end held g₀ g = end - g
 
--- src/buffer.rt:106:5
 loop-holds : tie.Need-loop-holds Inv-loop μ-loop
 loop-holds c = pass-none _ _ _ (omega arith)
 
--- src/buffer.rt:106:17
 sub-loop : tie.Need-sub-loop Inv-loop μ-loop
 sub-loop c = search needs
 
--- src/buffer.rt:107:13
 chunk-all-requires : tie.Need-chunk-all-requires Inv-loop μ-loop
 chunk-all-requires c κs = search needs
 
--- src/buffer.rt:108:13
 returns : tie.Need-returns Inv-loop μ-loop
 returns c = c .before .before .before .loop .inv
 
--- src/buffer.rt:110:9
 add-g : tie.Need-add-g Inv-loop μ-loop
 add-g c = search needs
 
--- src/buffer.rt:106:5
 loop-less : tie.Need-loop-less Inv-loop μ-loop
 loop-less c = search needs
 
--- src/buffer.rt:106:5
 loop-again : tie.Need-loop-again Inv-loop μ-loop
 loop-again c = pass-chunk _ _ _ _ 16 (c .before .before .before .loop .inv) (omega (arith, c .before .before .before .loop .inv .to)) (sym (c .before .chunk-all .ensures) ∙ not-false _ (c .if1 .left))
 
--- src/buffer.rt:100:1
 returns-2 : tie.Need-returns-2 Inv-loop μ-loop
 returns-2 c = c .before .loop .inv
 

@@ -8,43 +8,33 @@ use Rattle.framewords.proofs.buffer.held_to.Lts as lts
 use Rattle.framewords.proofs.buffer.chunks_to.Reads as chunks-to-reads
 use Rattle.framewords.proofs.buffer.held_words.Reads as held-words-reads
 
--- src/buffer.rt:139:8
 sub-if1 : tie.Need-sub-if1
 sub-if1 c = search needs
 
--- src/buffer.rt:140:9
 held-words-requires : tie.Need-held-words-requires
 held-words-requires c κs = search needs
 
--- src/buffer.rt:140:9
 returns : tie.Need-returns
 returns c = c .held-words .ensures
 
--- src/buffer.rt:142:41
 add-held-words : tie.Need-add-held-words
 add-held-words c = search needs
 
--- src/buffer.rt:142:9
 held-words-requires-2 : tie.Need-held-words-requires-2
 held-words-requires-2 c κs = search needs
 
--- src/buffer.rt:143:15
 add-if2 : tie.Need-add-if2
 add-if2 c = search needs
 
--- src/buffer.rt:144:9
 returns-2 : tie.Need-returns-2
 returns-2 c = (held-near _ _ _ _ _ (omega arith) (c .before .held-words2 .ensures .0), λ ne. c .before .held-words2 .ensures .1 (λ e. omega arith))
 
--- src/buffer.rt:146:9
 chunks-to-requires : tie.Need-chunks-to-requires
 chunks-to-requires c κs = search needs
 
--- src/buffer.rt:147:5
 held-words-requires-3 : tie.Need-held-words-requires-3
 held-words-requires-3 c κs = search needs
 
--- src/buffer.rt:133:1
 returns-3 : tie.Need-returns-3
 returns-3 c = (held-more _ _ _ _ _ (held-near _ _ _ _ _ (omega arith) (c .before .before .before .held-words2 .ensures .0)) (held-more _ _ _ _ _ (held-pass _ _ _ _ (c .before .chunks-to .ensures)) (c .held-words3 .ensures .0)), c .held-words3 .ensures .1)
 

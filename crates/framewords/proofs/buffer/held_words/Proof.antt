@@ -17,39 +17,30 @@ Inv-loop frames from end g₀ g = HeldTo frames from end g
 abbrev μ-loop : tie.MeasureT-loop
 μ-loop frames from end g₀ g = end - g
 
--- src/buffer.rt:123:5
 loop-holds : tie.Need-loop-holds Inv-loop μ-loop
 loop-holds c = held-none _ _ _ (omega arith)
 
--- src/buffer.rt:124:21
 mul-owner-of : tie.Need-mul-owner-of Inv-loop μ-loop
 mul-owner-of c = search needs
 
--- src/buffer.rt:124:21
 shared-slice-read-owner-of : tie.Need-shared-slice-read-owner-of Inv-loop μ-loop
 shared-slice-read-owner-of c = search needs
 
--- src/buffer.rt:124:12
 owner-of-requires : tie.Need-owner-of-requires Inv-loop μ-loop
 owner-of-requires c κs = search needs
 
--- src/buffer.rt:125:13
 returns : tie.Need-returns Inv-loop μ-loop
 returns c = (c .before .before .before .before .loop .inv, λ ne. is-free _ _ (sym (c .before .owner-of .ensures) ∙ c .if1 .taken))
 
--- src/buffer.rt:127:9
 add-g : tie.Need-add-g Inv-loop μ-loop
 add-g c = search needs
 
--- src/buffer.rt:123:5
 loop-less : tie.Need-loop-less Inv-loop μ-loop
 loop-less c = search needs
 
--- src/buffer.rt:123:5
 loop-again : tie.Need-loop-again Inv-loop μ-loop
 loop-again c = held-more _ _ _ _ _ (c .before .before .before .before .loop .inv) (held-one _ _ _ (omega arith) (is-held _ _ (λ e. c .if1 .left (c .before .owner-of .ensures ∙ e))))
 
--- src/buffer.rt:116:1
 returns-2 : tie.Need-returns-2 Inv-loop μ-loop
 returns-2 c = (c .before .loop .inv, λ ne. absurd (ne (omega (arith, c .before .loop .inv .to))))
 

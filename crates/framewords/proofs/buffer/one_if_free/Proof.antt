@@ -7,15 +7,12 @@ use Rattle.framewords.proofs.buffer.one_if_free.Reads as reads
 use Rattle.framewords.proofs.buffer.one_if_free.Lts as lts
 use Rattle.framewords.proofs.buffer.owner_of.Reads as owner-of-reads
 
--- src/buffer.rt:27:9
 owner-of-requires : tie.Need-owner-of-requires
 owner-of-requires c κs = search needs
 
--- src/buffer.rt:29:9
 returns : tie.Need-returns
 returns c = (one-free _ _ (c .before .owner-of .ensures) (c .if1 .taken), omega arith)
 
--- src/buffer.rt:23:1
 returns-2 : tie.Need-returns-2
 returns-2 c = (one-held _ _ (c .before .owner-of .ensures) (c .if1 .left), omega arith)
 

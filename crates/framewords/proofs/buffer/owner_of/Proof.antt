@@ -4,11 +4,9 @@ use mathlib.Core.Path.{sym}
 use Prim.Native.Nat.{_-_}
 use Rattle.blocks.proofs.WordLaws.{owner-low, owner-high}
 
--- src/buffer.rt:14:9
 returns : tie.Need-returns
 returns c = sym (owner-low _ (c .if1 .taken))
 
--- src/buffer.rt:10:1
 returns-2 : tie.Need-returns-2
 returns-2 c = sym (owner-high _ (c .if1 .left))
 

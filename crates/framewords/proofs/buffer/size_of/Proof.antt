@@ -5,11 +5,9 @@ use Rattle.framewords.proofs.buffer.size_of.Tie as tie
 use Prim.Native.Nat.{_-_}
 use native.Mathlib.Omega.{arith}
 
--- src/buffer.rt:24:5
 shl-result : tie.Need-shl-result
 shl-result c = search needs
 
--- src/buffer.rt:20:1
 returns : tie.Need-returns
 returns c = shift-one 32 _ (omega arith)
 

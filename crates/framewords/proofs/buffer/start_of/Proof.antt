@@ -4,15 +4,12 @@ use Rattle.blocks.proofs.AroundLaws.{start-shifted}
 use Rattle.framewords.proofs.buffer.start_of.Statement.{statement}
 use Rattle.framewords.proofs.buffer.start_of.Tie as tie
 
--- src/buffer.rt:85:12
 shr-t4 : tie.Need-shr-t4
 shr-t4 c = search needs
 
--- src/buffer.rt:85:11
 shl-t5 : tie.Need-shl-t5
 shl-t5 c = search needs
 
--- src/buffer.rt:80:1
 returns : tie.Need-returns
 returns c = start-shifted 32 _ _ (omega arith)
 

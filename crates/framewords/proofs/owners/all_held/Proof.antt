@@ -5,23 +5,18 @@ use mathlib.Core.Path.{_∙_}
 use Prim.Native.Nat.{_-_}
 use Rattle.blocks.proofs.FreeLaws.{marks-all}
 
--- src/owners.rt:106:39
 slice-aggregate-mark-held : tie.Need-slice-aggregate-mark-held
 slice-aggregate-mark-held c = search needs
 
--- src/owners.rt:106:5
 mark-held-requires : tie.Need-mark-held-requires
 mark-held-requires c κs = search needs
 
--- src/owners.rt:107:14
 slice-aggregate-all-same : tie.Need-slice-aggregate-all-same
 slice-aggregate-all-same c = search needs
 
--- src/owners.rt:107:5
 all-same-requires : tie.Need-all-same-requires
 all-same-requires c κs = search needs
 
--- src/owners.rt:99:1
 returns : tie.Need-returns
 returns c = c .all-same .ensures ∙ marks-all _ _ _ _ _ (c .before .before .before .mark-held .ensures)
 

@@ -12,43 +12,33 @@ Inv-loop frames pool owner n end g₀ g = (end ≡ pool) × ((g ≤ end) × None
 abbrev μ-loop : tie.MeasureT-loop
 μ-loop frames pool owner n end g₀ g = end - g
 
--- src/owners.rt:58:5
 loop-holds : tie.Need-loop-holds Inv-loop μ-loop
 loop-holds c = (refl, (omega arith, none-zero _ _ _))
 
--- src/owners.rt:59:26
 mul-owner-of : tie.Need-mul-owner-of Inv-loop μ-loop
 mul-owner-of c = search needs
 
--- src/owners.rt:59:26
 shared-slice-read-owner-of : tie.Need-shared-slice-read-owner-of Inv-loop μ-loop
 shared-slice-read-owner-of c = search needs
 
--- src/owners.rt:59:13
 owner-of-requires : tie.Need-owner-of-requires Inv-loop μ-loop
 owner-of-requires c κs = search needs
 
--- src/owners.rt:60:13
 in-span-requires : tie.Need-in-span-requires Inv-loop μ-loop
 in-span-requires c κs = search needs
 
--- src/owners.rt:62:13
 returns : tie.Need-returns Inv-loop μ-loop
 returns c = one-held-by _ _ _ _ _ (omega arith) (span-read _ _ _ _ _ (c .before .before .owner-of .ensures) (c .before .in-span .ensures) (c .if1 .taken))
 
--- src/owners.rt:64:9
 add-g : tie.Need-add-g Inv-loop μ-loop
 add-g c = search needs
 
--- src/owners.rt:58:5
 loop-less : tie.Need-loop-less Inv-loop μ-loop
 loop-less c = search needs
 
--- src/owners.rt:58:5
 loop-again : tie.Need-loop-again Inv-loop μ-loop
 loop-again c = (c .before .before .before .before .before .loop .inv .0, (omega arith, none-more _ _ _ _ (c .before .before .before .before .before .loop .inv .1 .1) (span-read _ _ _ _ _ (c .before .before .owner-of .ensures) (c .before .in-span .ensures) (c .if1 .left))))
 
--- src/owners.rt:51:1
 returns-2 : tie.Need-returns-2 Inv-loop μ-loop
 returns-2 c = let e : c .before .loop .g ≡ c .before .before .before .args .pool = omega arith in none-held _ _ _ _ (rw (← e) (c .before .loop .inv .1 .1))
 

@@ -14,41 +14,32 @@ Inv-loop frames pool end n₀ f₀ n f = (end ≡ pool) × ((f ≤ end) × (n �
 abbrev μ-loop : tie.MeasureT-loop
 μ-loop frames pool end n₀ f₀ n f = end - f
 
--- src/owners.rt:33:5
 loop-holds : tie.Need-loop-holds Inv-loop μ-loop
 unfolding count
 loop-holds c = (refl, (omega arith, refl))
 
--- src/owners.rt:34:26
 mul-one-if-free : tie.Need-mul-one-if-free Inv-loop μ-loop
 mul-one-if-free c = search needs
 
--- src/owners.rt:34:26
 shared-slice-read-one-if-free : tie.Need-shared-slice-read-one-if-free Inv-loop μ-loop
 shared-slice-read-one-if-free c = search needs
 
--- src/owners.rt:34:14
 one-if-free-requires : tie.Need-one-if-free-requires Inv-loop μ-loop
 one-if-free-requires c κs = search needs
 
--- src/owners.rt:34:9
 add-n : tie.Need-add-n Inv-loop μ-loop
 add-n c = omega (arith, c .before .before .before .loop .inv .1 .1, count-le (c .before .before .before .loop .f) (freeIn (c .before .before .before .before .before .args .frames .now)), c .one-if-free .ensures .1)
 
--- src/owners.rt:35:9
 add-f : tie.Need-add-f Inv-loop μ-loop
 add-f c = search needs
 
--- src/owners.rt:33:5
 loop-less : tie.Need-loop-less Inv-loop μ-loop
 loop-less c = search needs
 
--- src/owners.rt:33:5
 loop-again : tie.Need-loop-again Inv-loop μ-loop
 unfolding freeIn freeOf ownersOf
 loop-again c = (c .before .before .before .loop .inv .0, (omega arith, count-step _ _ _ _ (c .before .before .before .loop .inv .1 .1) (c .one-if-free .ensures .0)))
 
--- src/owners.rt:25:1
 returns : tie.Need-returns Inv-loop μ-loop
 returns c = let e : c .before .loop .f ≡ c .before .before .before .args .pool = omega arith in rw (← e) (c .before .loop .inv .1 .1)
 

@@ -2,11 +2,9 @@ use Rattle.framewords.proofs.owners.in_span.Statement.{statement}
 use Rattle.framewords.proofs.owners.in_span.Tie as tie
 use Rattle.blocks.proofs.FreeLaws.{span-low, span-high}
 
--- src/owners.rt:45:9
 returns : tie.Need-returns
 returns c = span-low _ _ _ (c .if1 .taken)
 
--- src/owners.rt:41:1
 returns-2 : tie.Need-returns-2
 returns-2 c = span-high _ _ _ (c .if1 .left)
 

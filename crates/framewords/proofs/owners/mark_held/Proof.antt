@@ -14,47 +14,36 @@ Inv-loop frames pool owner n marks₀ end g₀ marks g = (end ≡ pool) × ((g �
 abbrev μ-loop : tie.MeasureT-loop
 μ-loop frames pool owner n marks₀ end g₀ marks g = end - g
 
--- src/owners.rt:88:5
 fill-requires : tie.Need-fill-requires Inv-loop μ-loop
 fill-requires c κs = search needs
 
--- src/owners.rt:91:5
 loop-holds : tie.Need-loop-holds Inv-loop μ-loop
 loop-holds c = (refl, (omega arith, (refl, marks-none _ _ _ _ (λ t h. c .before .before .fill .ensures .inside t zero-le h))))
 
--- src/owners.rt:92:26
 mul-owner-of : tie.Need-mul-owner-of Inv-loop μ-loop
 mul-owner-of c = search needs
 
--- src/owners.rt:92:26
 shared-slice-read-owner-of : tie.Need-shared-slice-read-owner-of Inv-loop μ-loop
 shared-slice-read-owner-of c = search needs
 
--- src/owners.rt:92:13
 owner-of-requires : tie.Need-owner-of-requires Inv-loop μ-loop
 owner-of-requires c κs = search needs
 
--- src/owners.rt:93:9
 mark-one-requires : tie.Need-mark-one-requires Inv-loop μ-loop
 mark-one-requires c κs = omega (arith, c .before .before .before .before .loop .inv .1 .1 .0, c .before .before .before .before .before .before .before .fill .kept .0)
 
--- src/owners.rt:94:9
 add-g : tie.Need-add-g Inv-loop μ-loop
 add-g c = search needs
 
--- src/owners.rt:91:5
 loop-less : tie.Need-loop-less Inv-loop μ-loop
 loop-less c = search needs
 
--- src/owners.rt:91:5
 loop-again : tie.Need-loop-again Inv-loop μ-loop
 loop-again c = (c .before .before .before .before .before .before .before .loop .inv .0, (omega arith, (omega arith, marks-turn _ _ _ _ _ _ _ (c .before .before .before .before .before .before .before .loop .inv .1 .1 .1) (c .before .before .before .before .owner-of .ensures) (c .before .before .mark-one .ensures))))
 
--- src/owners.rt:82:1
 same-length : tie.Need-same-length Inv-loop μ-loop
 same-length c = c .before .loop .inv .1 .1 .0 ∙ c .before .before .before .before .fill .kept .0
 
--- src/owners.rt:82:1
 returns : tie.Need-returns Inv-loop μ-loop
 returns c = let e : c .before .loop .g ≡ c .before .before .before .before .before .before .before .before .args .pool = omega arith in rw (← e) (c .before .loop .inv .1 .1 .1)
 

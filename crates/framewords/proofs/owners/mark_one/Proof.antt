@@ -7,35 +7,27 @@ use native.Mathlib.Omega.{arith}
 use borrow.Author.Tests.{not-true, not-false}
 use Rattle.blocks.proofs.FreeLaws.{span-in, mark-out, mark-in}
 
--- src/owners.rt:74:9
 in-span-requires : tie.Need-in-span-requires
 in-span-requires c κs = search needs
 
--- src/owners.rt:76:9
 returns : tie.Need-returns
 returns c = mark-out _ _ _ _ (sym (c .before .in-span .ensures) ∙ not-true _ (c .if1 .taken))
 
--- src/owners.rt:78:12
 sub-marks : tie.Need-sub-marks
 sub-marks c = let s = span-in _ _ _ (sym (c .before .in-span .ensures) ∙ not-false _ (c .if1 .left)) in omega (arith, s .0, s .1)
 
--- src/owners.rt:78:11
 cast-marks : tie.Need-cast-marks
 cast-marks c = let s = span-in _ _ _ (sym (c .before .in-span .ensures) ∙ not-false _ (c .if1 .left)) in omega (arith, s .0, s .1)
 
--- src/owners.rt:78:5
 mul-marks : tie.Need-mul-marks
 mul-marks c = let s = span-in _ _ _ (sym (c .before .in-span .ensures) ∙ not-false _ (c .if1 .left)) in omega (arith, s .0, s .1)
 
--- src/owners.rt:78:5
 slice-write-marks : tie.Need-slice-write-marks
 slice-write-marks c = let s = span-in _ _ _ (sym (c .before .in-span .ensures) ∙ not-false _ (c .if1 .left)) in omega (arith, s .0, s .1)
 
--- src/owners.rt:70:1
 same-length : tie.Need-same-length
 same-length c = search needs
 
--- src/owners.rt:70:1
 returns-2 : tie.Need-returns-2
 returns-2 c = mark-in _ _ _ _ (sym (c .before .in-span .ensures) ∙ not-false _ (c .if1 .left)) (omega arith)
 

@@ -6,39 +6,30 @@ use native.Mathlib.Omega.{arith}
 use lib.ListN.{length, length-map}
 use Rattle.lookup.proofs.FindingLaws.{range-read, last-covers, last-not, no-last}
 
--- src/entries.rt:63:9
 first-covering-requires : tie.Need-first-covering-requires
 first-covering-requires c κs = search needs
 
--- src/entries.rt:63:9
 returns : tie.Need-returns
 returns c = (last-not _ _ _ (no-last _ _ _ (rw length-map at (c .before .before .good .0 .1 .1 .1 .0 .1 .0 .1)) (c .before .if1 .taken)) ∙ c .first-covering .ensures .0, c .first-covering .ensures .1)
 
--- src/entries.rt:65:22
 cast-e : tie.Need-cast-e
 cast-e c = search needs
 
--- src/entries.rt:65:13
 mul-e : tie.Need-mul-e
 mul-e c = search needs
 
--- src/entries.rt:65:13
 element-copy-out-e : tie.Need-element-copy-out-e
 element-copy-out-e c = search needs
 
--- src/entries.rt:66:8
 covers-requires : tie.Need-covers-requires
 covers-requires c κs = search needs
 
--- src/entries.rt:67:9
 returns-2 : tie.Need-returns-2
 returns-2 c = (last-covers _ _ _ (omega arith) (sym (range-read _ _ _ _ _ (let l : length (c .before .before .before .before .args .t1 .ranges) ≡ 32 = rw length-map at (c .before .before .before .before .good .0 .1 .1 .1 .0 .1 .0 .1) in omega arith)) ∙ (sym (c .before .covers .ensures) ∙ c .if2 .taken)), omega arith)
 
--- src/entries.rt:69:5
 first-covering-requires-2 : tie.Need-first-covering-requires-2
 first-covering-requires-2 c κs = search needs
 
--- src/entries.rt:58:1
 returns-3 : tie.Need-returns-3
 returns-3 c = (last-not _ _ _ (sym (range-read _ _ _ _ _ (let l : length (c .before .before .before .before .before .args .t1 .ranges) ≡ 32 = rw length-map at (c .before .before .before .before .before .good .0 .1 .1 .1 .0 .1 .0 .1) in omega arith)) ∙ (sym (c .before .before .covers .ensures) ∙ c .before .if2 .left)) ∙ c .first-covering2 .ensures .0, c .first-covering2 .ensures .1)
 

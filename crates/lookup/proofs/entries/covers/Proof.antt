@@ -3,22 +3,18 @@ use Rattle.lookup.proofs.entries.covers.Tie as tie
 use borrow.Author.Tests.{eq-eqb, ne-eqb, lt-leb, le-leb}
 use Rattle.history.specs.Translate.{covers}
 
--- src/entries.rt:30:9
 returns : tie.Need-returns
 unfolding covers
 returns c = simp (ne-eqb _ _ (c .if1 .taken))
 
--- src/entries.rt:33:9
 returns-2 : tie.Need-returns-2
 unfolding covers
 returns-2 c = simp (eq-eqb _ _ (c .before .before .if1 .left), ne-eqb _ _ (c .if2 .taken))
 
--- src/entries.rt:37:9
 returns-3 : tie.Need-returns-3
 unfolding covers
 returns-3 c = simp (eq-eqb _ _ (c .before .before .before .before .if1 .left), eq-eqb _ _ (c .before .before .if2 .left), lt-leb _ _ (c .if3 .taken))
 
--- src/entries.rt:26:1
 returns-4 : tie.Need-returns-4
 unfolding covers
 returns-4 c = simp (eq-eqb _ _ (c .before .before .before .before .before .if1 .left), eq-eqb _ _ (c .before .before .before .if2 .left), le-leb _ _ (c .before .if3 .left))

@@ -15,43 +15,33 @@ Inv-loop s p u k₀ k = (k ≤ 32) × ((length (u .ranges) ≡ 32) × ((j : ℕ)
 abbrev μ-loop : tie.MeasureT-loop
 μ-loop s p u k₀ k = 32 - k
 
--- src/entries.rt:47:5
 loop-holds : tie.Need-loop-holds Inv-loop μ-loop
 loop-holds c = (omega arith, (rw length-map at (c .good .0 .1 .1 .1 .0 .1 .0 .1), λ j lo hi. absurd (omega arith)))
 
--- src/entries.rt:48:26
 cast-e : tie.Need-cast-e Inv-loop μ-loop
 cast-e c = search needs
 
--- src/entries.rt:48:17
 mul-e : tie.Need-mul-e Inv-loop μ-loop
 mul-e c = search needs
 
--- src/entries.rt:48:17
 element-copy-out-e : tie.Need-element-copy-out-e Inv-loop μ-loop
 element-copy-out-e c = search needs
 
--- src/entries.rt:49:12
 covers-requires : tie.Need-covers-requires Inv-loop μ-loop
 covers-requires c κs = search needs
 
--- src/entries.rt:50:13
 returns : tie.Need-returns Inv-loop μ-loop
 returns c = (first-covers _ _ _ _ (omega arith) (sym (range-read _ _ _ _ _ (omega arith)) ∙ (sym (c .before .covers .ensures) ∙ c .if1 .taken)) (c .before .before .before .before .loop .inv .1 .1), omega arith)
 
--- src/entries.rt:52:9
 add-k : tie.Need-add-k Inv-loop μ-loop
 add-k c = search needs
 
--- src/entries.rt:47:5
 loop-less : tie.Need-loop-less Inv-loop μ-loop
 loop-less c = search needs
 
--- src/entries.rt:47:5
 loop-again : tie.Need-loop-again Inv-loop μ-loop
 loop-again c = (omega arith, (c .before .before .before .before .loop .inv .1 .0, none-yet _ _ (sym (range-read _ _ _ _ _ (omega arith)) ∙ (sym (c .before .covers .ensures) ∙ c .if1 .left)) (c .before .before .before .before .loop .inv .1 .1)))
 
--- src/entries.rt:43:1
 returns-2 : tie.Need-returns-2 Inv-loop μ-loop
 returns-2 c = (none-covers _ _ _ _ (omega arith) (c .before .loop .inv .1 .1), omega arith)
 

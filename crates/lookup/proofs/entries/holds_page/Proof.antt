@@ -4,17 +4,14 @@ use borrow.Author.Tests.{eq-eqb, ne-eqb}
 use Rattle.history.specs.Translate.{holdsPage}
 use Rattle.lookup.proofs.FindingLaws.{holds-last}
 
--- src/entries.rt:16:9
 returns : tie.Need-returns
 unfolding holdsPage
 returns c = simp (ne-eqb _ _ (c .if1 .taken))
 
--- src/entries.rt:19:9
 returns-2 : tie.Need-returns-2
 unfolding holdsPage
 returns-2 c = simp (eq-eqb _ _ (c .before .before .if1 .left), ne-eqb _ _ (c .if2 .taken))
 
--- src/entries.rt:12:1
 returns-3 : tie.Need-returns-3
 returns-3 c = holds-last _ _ _ (c .before .before .before .if1 .left) (c .before .if2 .left)
 

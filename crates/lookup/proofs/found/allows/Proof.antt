@@ -4,11 +4,9 @@ use Rattle.lookup.proofs.found.allows.Tie as tie
 use mathlib.Core.Path.{refl}
 use Rattle.history.specs.Translate.{allows}
 
--- src/found.rt:90:5
 div-result : tie.Need-div-result
 div-result c = search needs
 
--- src/found.rt:86:1
 returns : tie.Need-returns
 unfolding allows
 returns c = refl

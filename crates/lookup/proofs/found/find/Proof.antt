@@ -5,55 +5,42 @@ use mathlib.Core.Path.{sym, _∙_}
 use lib.ListN.{length-map}
 use Rattle.lookup.proofs.FindingLaws.{by-page, no-page, by-range, no-range, by-word, nowhere}
 
--- src/found.rt:21:14
 cast-at : tie.Need-cast-at
 cast-at c = search needs
 
--- src/found.rt:22:13
 mul-e : tie.Need-mul-e
 mul-e c = search needs
 
--- src/found.rt:22:13
 element-copy-out-e : tie.Need-element-copy-out-e
 element-copy-out-e c = search needs
 
--- src/found.rt:23:8
 holds-page-requires : tie.Need-holds-page-requires
 holds-page-requires c κs = search needs
 
--- src/found.rt:24:9
 returns : tie.Need-returns
 returns c = by-page _ _ _ _ _ (rw length-map at (c .before .before .before .good .0 .1 .1 .0 .1 .0 .1)) (sym (c .before .holds-page .ensures) ∙ c .if1 .taken)
 
--- src/found.rt:26:9
 covering-place-requires : tie.Need-covering-place-requires
 covering-place-requires c κs = search needs
 
--- src/found.rt:28:26
 cast-r : tie.Need-cast-r
 cast-r c = search needs
 
--- src/found.rt:28:17
 mul-r : tie.Need-mul-r
 mul-r c = search needs
 
--- src/found.rt:28:17
 element-copy-out-r : tie.Need-element-copy-out-r
 element-copy-out-r c = search needs
 
--- src/found.rt:29:9
 returns-2 : tie.Need-returns-2
 returns-2 c = by-range _ _ _ _ _ _ (rw length-map at (c .before .before .before .before .before .before .good .0 .1 .1 .1 .0 .1 .0 .1)) (c .before .before .covering-place .ensures .0) (c .before .if2 .taken) ∙ sym (no-page _ _ _ _ _ (rw length-map at (c .before .before .before .before .before .before .good .0 .1 .1 .0 .1 .0 .1)) (sym (c .before .before .before .before .holds-page .ensures) ∙ c .before .before .before .if1 .left))
 
--- src/found.rt:31:8
 mapped-requires : tie.Need-mapped-requires
 mapped-requires c κs = search needs
 
--- src/found.rt:32:9
 returns-3 : tie.Need-returns-3
 returns-3 c = by-word _ (sym (c .before .mapped .ensures) ∙ c .if3 .taken) ∙ (sym (no-range _ _ _ _ _ (c .before .before .before .covering-place .ensures .0) (c .before .before .if2 .left)) ∙ sym (no-page _ _ _ _ _ (rw length-map at (c .before .before .before .before .before .before .before .good .0 .1 .1 .0 .1 .0 .1)) (sym (c .before .before .before .before .before .holds-page .ensures) ∙ c .before .before .before .before .if1 .left)))
 
--- src/found.rt:17:1
 returns-4 : tie.Need-returns-4
 returns-4 c = nowhere _ (sym (c .before .mapped .ensures) ∙ c .if3 .left) ∙ (sym (no-range _ _ _ _ _ (c .before .before .before .covering-place .ensures .0) (c .before .before .if2 .left)) ∙ sym (no-page _ _ _ _ _ (rw length-map at (c .before .before .before .before .before .before .before .good .0 .1 .1 .0 .1 .0 .1)) (sym (c .before .before .before .before .before .holds-page .ensures) ∙ c .before .before .before .before .if1 .left)))
 

@@ -5,46 +5,36 @@ use mathlib.Core.Path.{sym, ap, _∙_}
 use Rattle.history.specs.Translate.{frameFound}
 use Rattle.history.specs.Units.{frameBy}
 
--- src/found.rt:54:25
 enum-known-f : tie.Need-enum-known-f
 enum-known-f c = search needs
 
--- src/found.rt:55:28
 enum-known-f-2 : tie.Need-enum-known-f-2
 enum-known-f-2 c = search needs
 
--- src/found.rt:55:43
 frame-at-requires : tie.Need-frame-at-requires
 frame-at-requires c κs = search needs
 
--- src/found.rt:56:25
 enum-known-f-3 : tie.Need-enum-known-f-3
 enum-known-f-3 c = search needs
 
--- src/found.rt:56:31
 frame-in-requires : tie.Need-frame-in-requires
 frame-in-requires c κs = search needs
 
--- src/found.rt:57:29
 enum-told : tie.Need-enum-told
 enum-told c = search needs
 
--- src/found.rt:50:1
 returns : tie.Need-returns
 unfolding frameFound
 returns c = sym (ap (frameFound (c .before .before .before .args .p .0)) (c .before .f .given .1))
 
--- src/found.rt:50:1
 returns-2 : tie.Need-returns-2
 unfolding frameFound frameBy
 returns-2 c = c .frame-at .ensures ∙ sym (ap (frameFound (c .before .before .before .before .args .p .0)) (c .before .before .f2 .given .1))
 
--- src/found.rt:50:1
 returns-3 : tie.Need-returns-3
 unfolding frameFound
 returns-3 c = c .frame-in .ensures ∙ sym (ap (frameFound (c .before .before .before .before .args .p .0)) (c .before .before .f3 .given .1))
 
--- src/found.rt:50:1
 returns-4 : tie.Need-returns-4
 unfolding frameFound
 returns-4 c = sym (ap (frameFound (c .before .before .args .p .0)) (c .enum-told .given .1))

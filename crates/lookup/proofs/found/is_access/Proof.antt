@@ -3,17 +3,14 @@ use Rattle.lookup.proofs.found.is_access.Tie as tie
 use borrow.Author.Tests.{eq-eqb, ne-eqb}
 use Rattle.history.specs.Translate.{isAccess}
 
--- src/found.rt:98:9
 returns : tie.Need-returns
 unfolding isAccess
 returns c = simp (eq-eqb _ _ (c .if1 .taken))
 
--- src/found.rt:101:9
 returns-2 : tie.Need-returns-2
 unfolding isAccess
 returns-2 c = simp (ne-eqb _ _ (c .before .if1 .left), eq-eqb _ _ (c .if2 .taken))
 
--- src/found.rt:94:1
 returns-3 : tie.Need-returns-3
 unfolding isAccess
 returns-3 c = simp (ne-eqb _ _ (c .before .if1 .left), ne-eqb _ _ (c .if2 .left))

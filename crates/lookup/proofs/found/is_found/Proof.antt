@@ -4,38 +4,30 @@ use Rattle.lookup.proofs.found.is_found.Tie as tie
 use mathlib.Core.Path.{sym, ap}
 use Rattle.history.specs.Translate.{isFound}
 
--- src/found.rt:42:31
 enum-told : tie.Need-enum-told
 enum-told c = search needs
 
--- src/found.rt:43:36
 enum-told-2 : tie.Need-enum-told-2
 enum-told-2 c = search needs
 
--- src/found.rt:44:31
 enum-told-3 : tie.Need-enum-told-3
 enum-told-3 c = search needs
 
--- src/found.rt:45:29
 enum-told-4 : tie.Need-enum-told-4
 enum-told-4 c = search needs
 
--- src/found.rt:38:1
 returns : tie.Need-returns
 unfolding isFound
 returns c = sym (ap isFound (c .enum-told .given .1))
 
--- src/found.rt:38:1
 returns-2 : tie.Need-returns-2
 unfolding isFound
 returns-2 c = sym (ap isFound (c .enum-told2 .given .1))
 
--- src/found.rt:38:1
 returns-3 : tie.Need-returns-3
 unfolding isFound
 returns-3 c = sym (ap isFound (c .enum-told3 .given .1))
 
--- src/found.rt:38:1
 returns-4 : tie.Need-returns-4
 unfolding isFound
 returns-4 c = sym (ap isFound (c .enum-told4 .given .1))

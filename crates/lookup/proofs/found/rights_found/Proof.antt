@@ -4,42 +4,33 @@ use Rattle.lookup.proofs.found.rights_found.Tie as tie
 use mathlib.Core.Path.{sym, ap, _∙_}
 use Rattle.history.specs.Translate.{rightsFound}
 
--- src/found.rt:66:25
 enum-known-f : tie.Need-enum-known-f
 enum-known-f c = search needs
 
--- src/found.rt:67:28
 enum-known-f-2 : tie.Need-enum-known-f-2
 enum-known-f-2 c = search needs
 
--- src/found.rt:68:25
 enum-known-f-3 : tie.Need-enum-known-f-3
 enum-known-f-3 c = search needs
 
--- src/found.rt:68:31
 rights-in-requires : tie.Need-rights-in-requires
 rights-in-requires c κs = search needs
 
--- src/found.rt:69:29
 enum-told : tie.Need-enum-told
 enum-told c = search needs
 
--- src/found.rt:62:1
 returns : tie.Need-returns
 unfolding rightsFound
 returns c = sym (ap rightsFound (c .before .f .given .1))
 
--- src/found.rt:62:1
 returns-2 : tie.Need-returns-2
 unfolding rightsFound
 returns-2 c = sym (ap rightsFound (c .before .f2 .given .1))
 
--- src/found.rt:62:1
 returns-3 : tie.Need-returns-3
 unfolding rightsFound
 returns-3 c = c .rights-in .ensures ∙ sym (ap rightsFound (c .before .before .f3 .given .1))
 
--- src/found.rt:62:1
 returns-4 : tie.Need-returns-4
 unfolding rightsFound
 returns-4 c = sym (ap rightsFound (c .enum-told .given .1))

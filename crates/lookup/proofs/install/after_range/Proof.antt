@@ -5,19 +5,15 @@ use Rattle.history.specs.Units.{frameBy}
 use Rattle.lookup.proofs.FindingLaws.{entry-made}
 use mathlib.Core.Path.{refl}
 
--- src/install.rt:96:9
 frame-at-requires : tie.Need-frame-at-requires
 frame-at-requires c κs = search needs
 
--- src/install.rt:104:9
 with-page-requires : tie.Need-with-page-requires
 with-page-requires c κs = search needs
 
--- src/install.rt:105:5
 with-last-requires : tie.Need-with-last-requires
 with-last-requires c κs = search needs
 
--- src/install.rt:93:1
 returns : tie.Need-returns
 unfolding frameBy
 returns c = rw (c .with-last .ensures, c .before .with-page .ensures, entry-made _ _ _ _ _ _ (c .before .before .frame-at .ensures) refl)

@@ -16,35 +16,27 @@ Inv-loop s ranges p j₀ j = (j ≤ 128) × ((k : ℕ) → 0 ≤ k → k < j →
 abbrev μ-loop : tie.MeasureT-loop
 μ-loop s ranges p j₀ j = 128 - j
 
--- src/install.rt:75:5
 loop-holds : tie.Need-loop-holds Inv-loop μ-loop
 loop-holds c = (omega arith, λ k lo hi. absurd (omega arith))
 
--- src/install.rt:76:13
 table-entry-requires : tie.Need-table-entry-requires Inv-loop μ-loop
 table-entry-requires c κs = search needs
 
--- src/install.rt:77:12
 covers-requires : tie.Need-covers-requires Inv-loop μ-loop
 covers-requires c κs = search needs
 
--- src/install.rt:78:13
 returns : tie.Need-returns Inv-loop μ-loop
 returns c = c .before .before .table-entry .ensures ∙ table-first _ _ _ _ (omega arith) (ap (λ (e : RangeEntry). covers e (c .before .before .before .before .before .before .args .s) (c .before .before .before .before .before .before .args .p .0)) (sym (c .before .before .table-entry .ensures)) ∙ (sym (c .before .covers .ensures) ∙ c .if1 .taken)) (c .before .before .before .before .loop .inv .1)
 
--- src/install.rt:80:9
 add-j : tie.Need-add-j Inv-loop μ-loop
 add-j c = search needs
 
--- src/install.rt:75:5
 loop-less : tie.Need-loop-less Inv-loop μ-loop
 loop-less c = search needs
 
--- src/install.rt:75:5
 loop-again : tie.Need-loop-again Inv-loop μ-loop
 loop-again c = (omega arith, none-yet (λ k. covers (tableEntry (c .before .before .before .before .before .before .args .s) (c .before .before .before .before .before .before .args .ranges .now) k) (c .before .before .before .before .before .before .args .s) (c .before .before .before .before .before .before .args .p .0)) _ (ap (λ (e : RangeEntry). covers e (c .before .before .before .before .before .before .args .s) (c .before .before .before .before .before .before .args .p .0)) (sym (c .before .before .table-entry .ensures)) ∙ (sym (c .before .covers .ensures) ∙ c .if1 .left)) (c .before .before .before .before .loop .inv .1))
 
--- src/install.rt:70:1
 returns-2 : tie.Need-returns-2 Inv-loop μ-loop
 unfolding noRange
 returns-2 c = table-none _ _ _ _ (omega arith) (c .before .loop .inv .1)

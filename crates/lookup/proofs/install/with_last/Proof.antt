@@ -3,7 +3,6 @@ use Rattle.lookup.proofs.install.with_last.Statement.{statement}
 use Rattle.lookup.proofs.install.with_last.Tie as tie
 use Rattle.history.specs.Translate.{withLast}
 
--- src/install.rt:30:1
 returns : tie.Need-returns
 unfolding withLast
 returns c = search needs

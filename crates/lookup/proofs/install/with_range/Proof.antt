@@ -3,23 +3,18 @@ use Rattle.lookup.proofs.install.with_range.Statement.{statement}
 use Rattle.lookup.proofs.install.with_range.Tie as tie
 use Rattle.history.specs.Translate.{withRange}
 
--- src/install.rt:45:14
 cast-at : tie.Need-cast-at
 cast-at c = search needs
 
--- src/install.rt:46:5
 mul-e : tie.Need-mul-e
 mul-e c = search needs
 
--- src/install.rt:46:5
 element-set-from-e : tie.Need-element-set-from-e
 element-set-from-e c = search needs
 
--- src/install.rt:48:15
 add-v : tie.Need-add-v
 add-v c = search needs
 
--- src/install.rt:39:1
 returns : tie.Need-returns
 unfolding withRange
 returns c = search needs

@@ -24,76 +24,59 @@ Inv-loop frames pool unlawful end f₀ held₀ f held = Sofar pool frames frames
 abbrev μ-loop : tie.MeasureT-loop
 μ-loop frames pool unlawful end f₀ held₀ f held = pool - f
 
--- src/checking.rt:70:9
 returns : tie.Need-returns Inv-loop μ-loop
 returns c = (lawful-no _ _ (λ l. c .if1 .taken (l .len)), λ t. true-false false t refl)
 
--- src/checking.rt:73:9
 returns-2 : tie.Need-returns-2 Inv-loop μ-loop
 returns-2 c = (lawful-no _ _ (λ l. let p = l .pos in omega arith), λ t. true-false false t refl)
 
--- src/checking.rt:76:9
 returns-3 : tie.Need-returns-3 Inv-loop μ-loop
 returns-3 c = (lawful-no _ _ (λ l. let p = l .small in omega arith), λ t. true-false false t refl)
 
--- src/checking.rt:79:9
 held-to-requires : tie.Need-held-to-requires Inv-loop μ-loop
 held-to-requires c κs = search needs
 
--- src/checking.rt:81:5
 loop-holds : tie.Need-loop-holds Inv-loop μ-loop
 loop-holds c =
     let w = c .held-to .ensures .0 in
     (held-turn _ _ _ _ (at-start _ _) w, (omega (arith, count-held _ _ _ _ 0 (held-start _) w), c .held-to .ensures .1))
 
--- src/checking.rt:82:49
 cast-t13 : tie.Need-cast-t13 Inv-loop μ-loop
 cast-t13 c = search needs
 
--- src/checking.rt:82:13
 block-at-requires : tie.Need-block-at-requires Inv-loop μ-loop
 block-at-requires c κs = (c .before .before .before .before .before .if1 .left, (omega arith, (omega arith, (c .before .loop .inv .1 .1 (λ e. omega arith), c .before .loop .inv .0 .edge))))
 
--- src/checking.rt:84:13
 returns-4 : tie.Need-returns-4 Inv-loop μ-loop
 returns-4 c = (lawful-wrong _ _ (omega arith) (c .before .before .block-at .ensures .bad (c .if4 .taken)), λ t. true-false false t refl)
 
--- src/checking.rt:86:21
 cast-after : tie.Need-cast-after Inv-loop μ-loop
 cast-after c = search needs
 
--- src/checking.rt:87:9
 held-to-requires-2 : tie.Need-held-to-requires-2 Inv-loop μ-loop
 held-to-requires-2 c κs = let s = c .before .before .before .block-at .ensures .good (c .before .if4 .left) in (omega arith, s .inside)
 
--- src/checking.rt:88:17
 sub-held : tie.Need-sub-held Inv-loop μ-loop
 sub-held c = omega (arith, c .held-to2 .ensures .0 .from)
 
--- src/checking.rt:88:9
 add-held : tie.Need-add-held Inv-loop μ-loop
 add-held c = omega (arith, c .before .before .before .before .before .before .loop .inv .1 .0, c .before .before .before .before .before .before .loop .inv .0 .fits, c .held-to2 .ensures .0 .to, count-le (c .before .before .before .before .before .before .loop .f) (ownedIn (c .before .before .before .before .before .before .before .before .before .before .before .before .args .frames .now)))
 
--- src/checking.rt:81:5
 loop-less : tie.Need-loop-less Inv-loop μ-loop
 loop-less c = let s = c .before .before .before .before .block-at .ensures .good (c .before .before .if4 .left) in omega (arith, s .on, c .held-to2 .ensures .0 .from, c .held-to2 .ensures .0 .to)
 
--- src/checking.rt:81:5
 loop-again : tie.Need-loop-again Inv-loop μ-loop
 loop-again c =
     let s = c .before .before .before .before .block-at .ensures .good (c .before .before .if4 .left) in
     let w = c .held-to2 .ensures .0 in
     (held-turn _ _ _ _ (one-turn _ _ _ _ _ _ (c .before .before .before .before .before .before .loop .inv .0) refl s) w, (count-held _ _ _ _ _ (count-block _ _ _ _ _ (s .on) (c .before .before .before .before .block-at .ensures) (c .before .before .before .before .before .before .loop .inv .1 .0)) w, c .held-to2 .ensures .1))
 
--- src/checking.rt:90:9
 all-same-requires : tie.Need-all-same-requires Inv-loop μ-loop
 all-same-requires c κs = (omega arith, omega arith)
 
--- src/checking.rt:93:15
 cast-t16 : tie.Need-cast-t16 Inv-loop μ-loop
 cast-t16 c = omega (arith, c .before .before .loop .inv .1 .0, c .before .before .loop .inv .0 .fits, count-le (c .before .before .loop .f) (ownedIn (c .before .before .before .before .before .before .before .before .args .frames .now)))
 
--- src/checking.rt:61:1
 returns-5 : tie.Need-returns-5 Inv-loop μ-loop
 returns-5 c = (
   c .all-same .ensures ∙ lawful-tail _ _ _ (c .before .before .before .before .before .before .if1 .left) (omega arith) (omega arith) (c .before .loop-test .left) (c .before .before .loop .inv .0),

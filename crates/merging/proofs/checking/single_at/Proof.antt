@@ -9,19 +9,15 @@ use Rattle.merging.proofs.checking.single_at.Reads as reads
 use Rattle.merging.proofs.checking.single_at.Lts as lts
 use Rattle.merging.proofs.settling.grows.Reads as grows-reads
 
--- src/checking.rt:33:8
 grows-requires : tie.Need-grows-requires
 grows-requires c κs = (c .before .pre .0, (c .before .pre .1 .0, (c .before .pre .1 .1 .0, (omega arith, (c .before .pre .1 .1 .1 .1 .0, start-zero _ _ _ (c .before .pre .1 .1 .1 .1 .0) (c .before .pre .1 .1 .0) (c .before .pre .1 .1 .1 .0))))))
 
--- src/checking.rt:34:9
 returns : tie.Need-returns
 returns c = check-larger _ _ _ (c .before .before .before .pre .1 .1 .0) (c .before .before .before .pre .1 .1 .1 .1 .0) (c .before .before .before .pre .1 .1 .1 .0) 0 (omega arith) (omega arith) (sym (c .before .grows .ensures) ∙ c .if1 .taken)
 
--- src/checking.rt:36:11
 add-t5 : tie.Need-add-t5
 add-t5 c = search needs
 
--- src/checking.rt:24:1
 returns-2 : tie.Need-returns-2
 returns-2 c =
     let edge = c .before .before .before .before .pre .1 .1 .1 .1 .0 in

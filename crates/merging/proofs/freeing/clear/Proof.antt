@@ -14,47 +14,36 @@ Inv-loop frames₀ pool owner n end g₀ frames g = (end ≡ pool) × ((g ≤ en
 abbrev μ-loop : tie.MeasureT-loop
 μ-loop frames₀ pool owner n end g₀ frames g = end - g
 
--- src/freeing.rt:126:5
 loop-holds : tie.Need-loop-holds Inv-loop μ-loop
 loop-holds c = (refl, (omega arith, (refl, change-none _ _ _)))
 
--- src/freeing.rt:127:25
 mul-cleared : tie.Need-mul-cleared Inv-loop μ-loop
 mul-cleared c = search needs
 
--- src/freeing.rt:127:25
 slice-read-cleared : tie.Need-slice-read-cleared Inv-loop μ-loop
 slice-read-cleared c = search needs
 
--- src/freeing.rt:127:13
 cleared-requires : tie.Need-cleared-requires Inv-loop μ-loop
 cleared-requires c κs = search needs
 
--- src/freeing.rt:128:9
 mul-frames : tie.Need-mul-frames Inv-loop μ-loop
 mul-frames c = search needs
 
--- src/freeing.rt:128:9
 slice-write-frames : tie.Need-slice-write-frames Inv-loop μ-loop
 slice-write-frames c = search needs
 
--- src/freeing.rt:129:9
 add-g : tie.Need-add-g Inv-loop μ-loop
 add-g c = search needs
 
--- src/freeing.rt:126:5
 loop-less : tie.Need-loop-less Inv-loop μ-loop
 loop-less c = search needs
 
--- src/freeing.rt:126:5
 loop-again : tie.Need-loop-again Inv-loop μ-loop
 loop-again c = (c .before .before .before .loop .inv .0, (omega arith, (simp length-set (omega arith), change-more _ _ _ _ _ _ zero-le (omega arith) (c .cleared .ensures) (c .before .before .before .loop .inv .1 .1 .1))))
 
--- src/freeing.rt:121:1
 same-length : tie.Need-same-length Inv-loop μ-loop
 same-length c = search needs
 
--- src/freeing.rt:121:1
 returns : tie.Need-returns Inv-loop μ-loop
 returns c = let e : c .before .loop .g ≡ c .before .before .before .args .pool = omega arith in rw (← e) (c .before .loop .inv .1 .1 .1)
 

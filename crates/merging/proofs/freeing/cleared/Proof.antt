@@ -5,15 +5,12 @@ use mathlib.Core.Path.{sym, _∙_}
 use Prim.Native.Nat.{_-_}
 use Rattle.blocks.proofs.FreeLaws.{cleared-in, cleared-out}
 
--- src/freeing.rt:114:9
 in-span-requires : tie.Need-in-span-requires
 in-span-requires c κs = search needs
 
--- src/freeing.rt:116:9
 returns : tie.Need-returns
 returns c = cleared-in _ _ _ (sym (c .before .in-span .ensures) ∙ c .if1 .taken)
 
--- src/freeing.rt:111:1
 returns-2 : tie.Need-returns-2
 returns-2 c = cleared-out _ _ _ (sym (c .before .in-span .ensures) ∙ c .if1 .left)
 

@@ -4,19 +4,15 @@ use Rattle.merging.proofs.freeing.release.Tie as tie
 use Prim.Native.Nat.{_-_}
 use Rattle.blocks.proofs.FreeLaws.{released}
 
--- src/freeing.rt:141:5
 clear-requires : tie.Need-clear-requires
 clear-requires c κs = search needs
 
--- src/freeing.rt:142:5
 settle-requires : tie.Need-settle-requires
 settle-requires c κs = search needs
 
--- src/freeing.rt:134:1
 same-length : tie.Need-same-length
 same-length c = search needs
 
--- src/freeing.rt:134:1
 returns : tie.Need-returns
 returns c = released _ _ _ _ _ _ (c .before .before .before .before .before .before .before .before .before .pre .1 .1 .0) (c .before .before .before .before .before .before .before .before .before .pre .1 .1 .1) (c .before .before .before .before .before .before .clear .ensures) (c .before .before .settle .ensures)
 

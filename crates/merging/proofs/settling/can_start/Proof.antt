@@ -5,11 +5,9 @@ use borrow.Author.Needs.{needs}
 use Rattle.merging.proofs.settling.can_start.Statement.{statement}
 use Rattle.merging.proofs.settling.can_start.Tie as tie
 
--- src/settling.rt:24:9
 start-of-requires : tie.Need-start-of-requires
 start-of-requires c κs = search needs
 
--- src/settling.rt:19:1
 returns : tie.Need-returns
 returns c = ap (λ (x : ℕ). eqb x (c .before .before .before .args .f .0)) (c .before .before .start-of .ensures)
 

@@ -19,31 +19,24 @@ Inv-loop frames pool f k₀ k = (k ≤ 10) × (around pool (freeIn frames) (f .0
 abbrev μ-loop : tie.MeasureT-loop
 μ-loop frames pool f k₀ k = 10 - k
 
--- src/settling.rt:58:5
 loop-holds : tie.Need-loop-holds Inv-loop μ-loop
 loop-holds c = (omega arith, start-zero _ _ _ (c .before .pre .1 .1 .1 .1) (c .before .pre .1 .1 .0) (c .before .pre .1 .1 .1 .0))
 
--- src/settling.rt:59:13
 grows-requires : tie.Need-grows-requires Inv-loop μ-loop
 grows-requires c κs = (c .before .before .before .pre .0, (c .before .before .before .pre .1 .0, (c .before .before .before .pre .1 .1 .0, (omega arith, (c .before .before .before .pre .1 .1 .1 .1, c .before .loop .inv .1)))))
 
--- src/settling.rt:60:13
 returns : tie.Need-returns Inv-loop μ-loop
 returns c = no-more _ _ _ (c .before .before .before .before .before .pre .1 .1 .1 .1) _ (c .before .before .before .loop .inv .0) (c .before .before .before .loop .inv .1) (λ h. sym (c .before .grows .ensures) ∙ not-true _ (c .if1 .taken))
 
--- src/settling.rt:62:9
 add-k : tie.Need-add-k Inv-loop μ-loop
 add-k c = search needs
 
--- src/settling.rt:58:5
 loop-less : tie.Need-loop-less Inv-loop μ-loop
 loop-less c = search needs
 
--- src/settling.rt:58:5
 loop-again : tie.Need-loop-again Inv-loop μ-loop
 loop-again c = (omega arith, sym (c .before .grows .ensures) ∙ not-false _ (c .if1 .left))
 
--- src/settling.rt:49:1
 returns-2 : tie.Need-returns-2 Inv-loop μ-loop
 returns-2 c = no-more _ _ _ (c .before .before .before .pre .1 .1 .1 .1) _ (c .before .loop .inv .0) (c .before .loop .inv .1) (λ h. absurd (omega arith))
 

@@ -14,55 +14,42 @@ use Rattle.framewords.proofs.buffer.all_free.Reads as all-free-reads
 use Rattle.framewords.proofs.buffer.size_of.Reads as size-of-reads
 use Rattle.merging.proofs.settling.can_start.Reads as can-start-reads
 
--- src/settling.rt:37:22
 add-can-start : tie.Need-add-can-start
 add-can-start c = search needs
 
--- src/settling.rt:37:9
 can-start-requires : tie.Need-can-start-requires
 can-start-requires c κs = search needs
 
--- src/settling.rt:38:9
 returns : tie.Need-returns
 returns c = odd-start _ _ _ (c .before .before .before .pre .1 .1 .1 .1 .0) _ (omega arith) (eqb-false _ _ (sym (c .before .can-start .ensures) ∙ not-true _ (c .if1 .taken)))
 
--- src/settling.rt:40:22
 size-of-requires : tie.Need-size-of-requires
 size-of-requires c κs = search needs
 
--- src/settling.rt:40:16
 add-half : tie.Need-add-half
 add-half c = omega (arith, order-size (c .before .before .before .before .before .args .k) (omega arith))
 
--- src/settling.rt:41:29
 add-size-of : tie.Need-add-size-of
 add-size-of c = search needs
 
--- src/settling.rt:41:21
 size-of-requires-2 : tie.Need-size-of-requires-2
 size-of-requires-2 c κs = search needs
 
--- src/settling.rt:41:15
 add-end : tie.Need-add-end
 add-end c = omega (arith, order-size (c .before .before .before .before .before .before .before .args .k + 1) (omega arith))
 
--- src/settling.rt:43:9
 returns-2 : tie.Need-returns-2
 returns-2 c = past-end _ _ _ (c .before .before .before .before .before .before .before .before .pre .1 .1 .1 .1 .0) _ (omega arith) _ (c .before .before .size-of2 .ensures) (omega arith)
 
--- src/settling.rt:45:22
 cast-all-free : tie.Need-cast-all-free
 cast-all-free c = search needs
 
--- src/settling.rt:45:37
 cast-all-free-2 : tie.Need-cast-all-free-2
 cast-all-free-2 c = search needs
 
--- src/settling.rt:45:5
 all-free-requires : tie.Need-all-free-requires
 all-free-requires c κs = omega (arith, double (c .before .before .before .before .before .before .before .before .args .k))
 
--- src/settling.rt:28:1
 returns-3 : tie.Need-returns-3
 returns-3 c = c .all-free .ensures ∙ upper-decides _ _ _ (c .before .before .before .before .before .before .before .before .before .pre .1 .1 .1 .1 .0) _ (omega arith) _ _ (c .before .before .before .before .before .size-of .ensures) (c .before .before .before .size-of2 .ensures) (c .before .before .before .before .before .before .before .before .before .pre .1 .1 .1 .1 .1) (eqb-true _ _ (sym (c .before .before .before .before .before .before .before .can-start .ensures) ∙ not-false _ (c .before .before .before .before .before .before .if1 .left))) (omega arith)
 

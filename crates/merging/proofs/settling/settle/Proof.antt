@@ -11,31 +11,24 @@ Inv-loop frames₀ pool f₀ frames f = Sofar pool frames₀ frames (f .0)
 abbrev μ-loop : tie.MeasureT-loop
 μ-loop frames₀ pool f₀ frames f = pool - f .0
 
--- src/settling.rt:70:5
 loop-holds : tie.Need-loop-holds Inv-loop μ-loop
 loop-holds c = at-start _ _
 
--- src/settling.rt:71:9
 settle-at-requires : tie.Need-settle-at-requires Inv-loop μ-loop
 settle-at-requires c κs = (omega (arith, c .before .before .before .loop .inv .len), (omega arith, (c .before .if1 .taken, c .before .before .before .loop .inv .edge)))
 
--- src/settling.rt:70:5
 loop-less : tie.Need-loop-less Inv-loop μ-loop
 loop-less c = omega (arith, c .before .before .settle-at .ensures .on, c .before .before .settle-at .ensures .inside)
 
--- src/settling.rt:70:5
 loop-again : tie.Need-loop-again Inv-loop μ-loop
 loop-again c = one-turn _ _ _ _ _ _ (c .before .before .before .before .before .before .loop .inv) (c .before .before .settle-at .kept .0) (c .before .before .settle-at .ensures)
 
--- src/settling.rt:73:5
 fill-requires : tie.Need-fill-requires Inv-loop μ-loop
 fill-requires c κs = (omega (arith, c .before .before .before .loop .inv .len), omega arith)
 
--- src/settling.rt:64:1
 same-length : tie.Need-same-length Inv-loop μ-loop
 same-length c = c .before .before .fill .kept .0 ∙ c .before .before .before .before .before .before .loop .inv .len
 
--- src/settling.rt:64:1
 returns : tie.Need-returns Inv-loop μ-loop
 returns c = at-end _ _ _ _ _ (c .before .before .before .before .before .before .before .before .pre .0) (c .before .before .before .before .if1 .left) (c .before .before .before .before .before .before .loop .inv) (c .before .before .fill .kept .0) (c .before .before .fill .ensures)
 

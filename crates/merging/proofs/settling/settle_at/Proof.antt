@@ -8,71 +8,54 @@ use lib.ListN.{length-set}
 use Rattle.blocks.proofs.WordLaws.{is-free}
 use Rattle.blocks.proofs.SettleLaws.{held-step, level-fits, free-step-by}
 
--- src/settling.rt:51:14
 cast-at : tie.Need-cast-at
 cast-at c = search needs
 
--- src/settling.rt:52:22
 mul-owner-of : tie.Need-mul-owner-of
 mul-owner-of c = search needs
 
--- src/settling.rt:52:22
 slice-read-owner-of : tie.Need-slice-read-owner-of
 slice-read-owner-of c = search needs
 
--- src/settling.rt:52:9
 owner-of-requires : tie.Need-owner-of-requires
 owner-of-requires c κs = search needs
 
--- src/settling.rt:54:22
 add-t12 : tie.Need-add-t12
 add-t12 c = search needs
 
--- src/settling.rt:54:9
 returns : tie.Need-returns
 returns c = held-step _ _ _ (c .before .before .before .before .before .before .pre .1 .1 .0) (c .before .before .before .before .before .before .pre .1 .1 .1) (λ e. c .before .if1 .taken (c .before .before .owner-of .ensures ∙ e))
 
--- src/settling.rt:56:9
 grow-requires : tie.Need-grow-requires
 grow-requires c κs = (c .before .before .before .before .before .before .pre .0, (c .before .before .before .before .before .before .pre .1 .0, (c .before .before .before .before .before .before .pre .1 .1 .0, (is-free _ _ (sym (c .before .before .owner-of .ensures) ∙ c .before .if1 .left), c .before .before .before .before .before .before .pre .1 .1 .1))))
 
--- src/settling.rt:57:21
 size-of-requires : tie.Need-size-of-requires
 size-of-requires c κs = let w = level-fits _ _ _ (c .before .before .before .before .before .before .before .pre .1 .1 .0) (c .before .before .before .before .before .before .before .pre .1 .1 .1) _ (is-free _ _ (sym (c .before .before .before .owner-of .ensures) ∙ c .before .before .if1 .left)) (c .grow .ensures) in w .1
 
--- src/settling.rt:57:15
 add-end : tie.Need-add-end
 add-end c = let w = level-fits _ _ _ (c .before .before .before .before .before .before .before .before .before .pre .1 .1 .0) (c .before .before .before .before .before .before .before .before .before .pre .1 .1 .1) _ (is-free _ _ (sym (c .before .before .before .before .before .owner-of .ensures) ∙ c .before .before .before .before .if1 .left)) (c .before .before .grow .ensures) in omega (arith, w .0)
 
--- src/settling.rt:58:18
 add-frames : tie.Need-add-frames
 add-frames c = let w = level-fits _ _ _ (c .before .before .before .before .before .before .before .before .before .pre .1 .1 .0) (c .before .before .before .before .before .before .before .before .before .pre .1 .1 .1) _ (is-free _ _ (sym (c .before .before .before .before .before .owner-of .ensures) ∙ c .before .before .before .before .if1 .left)) (c .before .before .grow .ensures) in omega (arith, w .1)
 
--- src/settling.rt:58:5
 mul-frames : tie.Need-mul-frames
 mul-frames c = search needs
 
--- src/settling.rt:58:5
 slice-write-frames : tie.Need-slice-write-frames
 slice-write-frames c = search needs
 
--- src/settling.rt:59:18
 add-fill : tie.Need-add-fill
 add-fill c = search needs
 
--- src/settling.rt:59:26
 cast-fill : tie.Need-cast-fill
 cast-fill c = let w = level-fits _ _ _ (c .before .before .before .before .before .before .before .before .before .before .pre .1 .1 .0) (c .before .before .before .before .before .before .before .before .before .before .pre .1 .1 .1) _ (is-free _ _ (sym (c .before .before .before .before .before .before .owner-of .ensures) ∙ c .before .before .before .before .before .if1 .left)) (c .before .before .before .grow .ensures) in omega (arith, w .0)
 
--- src/settling.rt:59:5
 fill-requires : tie.Need-fill-requires
 fill-requires c κs = let w = level-fits _ _ _ (c .before .before .before .before .before .before .before .before .before .before .pre .1 .1 .0) (c .before .before .before .before .before .before .before .before .before .before .pre .1 .1 .1) _ (is-free _ _ (sym (c .before .before .before .before .before .before .owner-of .ensures) ∙ c .before .before .before .before .before .if1 .left)) (c .before .before .before .grow .ensures) in (simp length-set (omega (arith, w .0)), omega (arith, w .2))
 
--- src/settling.rt:44:1
 same-length : tie.Need-same-length
 same-length c = c .before .before .fill .kept .0 ∙ length-set (c .before .before .before .before .before .before .before .before .before .before .before .before .before .args .frames .now) (c .before .before .before .before .before .before .before .before .before .before .before .before .before .args .f .0) (16384 + c .before .before .before .before .before .before .grow .result)
 
--- src/settling.rt:44:1
 returns-2 : tie.Need-returns-2
 returns-2 c = free-step-by _ _ _ (c .before .before .before .before .before .before .before .before .before .before .before .before .before .pre .1 .1 .0) (c .before .before .before .before .before .before .before .before .before .before .before .before .before .pre .1 .1 .1) _ _ _ (c .before .before .before .before .before .size-of .ensures) (omega arith) (is-free _ _ (sym (c .before .before .before .before .before .before .before .before .before .owner-of .ensures) ∙ c .before .before .before .before .before .before .before .before .if1 .left)) (c .before .before .before .before .before .before .grow .ensures) (c .before .before .fill .ensures)
 

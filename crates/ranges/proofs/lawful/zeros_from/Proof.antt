@@ -7,11 +7,9 @@ use Rattle.ranges.proofs.lawful.zeros_from.Reads as reads
 use Rattle.ranges.proofs.lawful.zeros_from.Lts as lts
 use Rattle.words.proofs.scans.all_zero.Reads as all-zero-reads
 
--- src/lawful.rt:105:5
 all-zero-requires : tie.Need-all-zero-requires
 all-zero-requires c κs = search needs
 
--- src/lawful.rt:101:1
 returns : tie.Need-returns
 returns c = zeros-all _ _ _ (omega arith) (c .all-zero .ensures)
 

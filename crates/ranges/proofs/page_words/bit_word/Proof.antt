@@ -7,27 +7,21 @@ use borrow.Author.Tests.{not-true, not-false}
 use Rattle.runs.specs.PageWords.{pageWord}
 use Rattle.runs.proofs.WordLaws.{frame-lt, rights-lt, bit-none, bit-mapped}
 
--- src/page_words.rt:55:9
 mapped-requires : tie.Need-mapped-requires
 mapped-requires c κs = search needs
 
--- src/page_words.rt:56:9
 returns : tie.Need-returns
 returns c = sym (bit-none _ _ (sym (c .before .mapped .ensures) ∙ not-true _ (c .if1 .taken)))
 
--- src/page_words.rt:58:20
 rights-in-requires : tie.Need-rights-in-requires
 rights-in-requires c κs = search needs
 
--- src/page_words.rt:58:34
 frame-in-requires : tie.Need-frame-in-requires
 frame-in-requires c κs = search needs
 
--- src/page_words.rt:58:5
 page-word-requires : tie.Need-page-word-requires
 page-word-requires c κs = (omega (arith, c .before .rights-in .ensures, rights-lt (c .before .before .before .before .args .w)), omega (arith, c .frame-in .ensures, frame-lt (c .before .before .before .before .args .w)))
 
--- src/page_words.rt:52:1
 returns-2 : tie.Need-returns-2
 returns-2 c = c .page-word .ensures ∙ ap₂ (pageWord (c .before .before .before .before .before .args .bit)) (c .before .before .rights-in .ensures) (c .before .frame-in .ensures) ∙ sym (bit-mapped _ _ (sym (c .before .before .before .before .mapped .ensures) ∙ not-false _ (c .before .before .before .if1 .left)))
 

@@ -3,11 +3,9 @@ use Rattle.ranges.proofs.page_words.frame_at.Statement.{statement}
 use Rattle.ranges.proofs.page_words.frame_at.Tie as tie
 use Rattle.words.specs.Wrapping.{wrapAdd}
 
--- src/page_words.rt:72:11
 wrapping-add-u32-requires : tie.Need-wrapping-add-u32-requires
 wrapping-add-u32-requires c κs = search needs
 
--- src/page_words.rt:69:1
 returns : tie.Need-returns
 unfolding wrapAdd
 returns c = c .wrapping-add-u32 .ensures

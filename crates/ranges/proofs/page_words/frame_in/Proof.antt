@@ -3,7 +3,6 @@ use Rattle.ranges.proofs.page_words.frame_in.Tie as tie
 use mathlib.Core.Path.{refl}
 use Rattle.runs.specs.PageWords.{frameIn}
 
--- src/page_words.rt:32:1
 returns : tie.Need-returns
 unfolding frameIn
 returns c = refl

@@ -3,7 +3,6 @@ use Rattle.ranges.proofs.page_words.mapped.Tie as tie
 use mathlib.Core.Path.{refl}
 use Rattle.runs.specs.PageWords.{mapped}
 
--- src/page_words.rt:11:1
 returns : tie.Need-returns
 unfolding mapped
 returns c = refl

@@ -4,11 +4,9 @@ use Rattle.ranges.proofs.page_words.offset.Tie as tie
 use native.Mathlib.Omega.{arith}
 use Rattle.words.proofs.WrappingLaws.{sub-only}
 
--- src/page_words.rt:65:5
 wrapping-sub-u32-requires : tie.Need-wrapping-sub-u32-requires
 wrapping-sub-u32-requires c κs = search needs
 
--- src/page_words.rt:62:1
 returns : tie.Need-returns
 returns c = sub-only 32 _ _ (omega arith) _ (omega arith) (c .wrapping-sub-u32 .ensures)
 

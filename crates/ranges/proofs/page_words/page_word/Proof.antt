@@ -5,28 +5,22 @@ use native.Mathlib.Omega.{arith}
 use Rattle.words.specs.Counts.{one-if}
 use Rattle.runs.specs.PageWords.{pageWord}
 
--- src/page_words.rt:44:15
 mul-low : tie.Need-mul-low
 mul-low c = search needs
 
--- src/page_words.rt:44:15
 add-low : tie.Need-add-low
 add-low c = search needs
 
--- src/page_words.rt:46:16
 add-result : tie.Need-add-result
 add-result c = search needs
 
--- src/page_words.rt:46:9
 returns : tie.Need-returns
 unfolding pageWord one-if
 returns c = let t = c .if1 .taken in rw t (omega arith)
 
--- src/page_words.rt:48:5
 add-result-2 : tie.Need-add-result-2
 add-result-2 c = search needs
 
--- src/page_words.rt:39:1
 returns-2 : tie.Need-returns-2
 unfolding pageWord one-if
 returns-2 c = let t = c .if1 .left in rw t (omega arith)

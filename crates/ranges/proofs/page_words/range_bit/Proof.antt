@@ -3,7 +3,6 @@ use Rattle.ranges.proofs.page_words.range_bit.Tie as tie
 use mathlib.Core.Path.{refl}
 use Rattle.runs.specs.PageWords.{rangeBit}
 
--- src/page_words.rt:18:1
 returns : tie.Need-returns
 unfolding rangeBit
 returns c = refl

@@ -3,7 +3,6 @@ use Rattle.ranges.proofs.page_words.rights_in.Tie as tie
 use mathlib.Core.Path.{refl}
 use Rattle.runs.specs.PageWords.{rightsIn}
 
--- src/page_words.rt:25:1
 returns : tie.Need-returns
 unfolding rightsIn
 returns c = refl

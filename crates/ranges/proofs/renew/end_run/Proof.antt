@@ -5,51 +5,39 @@ use borrow.Author.Needs.{needs}
 use Rattle.ranges.proofs.renew.end_run.Statement.{statement}
 use Rattle.ranges.proofs.renew.end_run.Tie as tie
 
--- src/renew.rt:68:9
 returns : tie.Need-returns
 returns c = still-on _ _ _ _ _ _ _ (c .if1 .taken)
 
--- src/renew.rt:71:25
 sub-t12 : tie.Need-sub-t12
 sub-t12 c = search needs
 
--- src/renew.rt:71:9
 mark-requires : tie.Need-mark-requires
 mark-requires c κs = search needs
 
--- src/renew.rt:72:9
 same-length : tie.Need-same-length
 same-length c = search needs
 
--- src/renew.rt:72:9
 returns-2 : tie.Need-returns-2
 returns-2 c = too-short _ _ _ _ _ _ _ _ (c .before .before .before .before .before .if1 .left) (c .before .before .before .before .if2 .taken) (c .before .before .mark .ensures)
 
--- src/renew.rt:74:21
 sub-t17 : tie.Need-sub-t17
 sub-t17 c = search needs
 
--- src/renew.rt:74:5
 mark-requires-2 : tie.Need-mark-requires-2
 mark-requires-2 c κs = search needs
 
--- src/renew.rt:75:5
 put-requires : tie.Need-put-requires
 put-requires c κs = (omega arith, (room-for _ _ _ _ _ (c .before .before .before .before .before .before .if1 .left) (omega arith) (c .before .before .before .before .before .before .before .before .before .pre .1 .1 .0), (omega arith, omega arith)))
 
--- src/renew.rt:76:5
 add-result : tie.Need-add-result
 add-result c = search needs
 
--- src/renew.rt:52:1
 same-length-2 : tie.Need-same-length-2
 same-length-2 c = search needs
 
--- src/renew.rt:52:1
 same-length-3 : tie.Need-same-length-3
 same-length-3 c = search needs
 
--- src/renew.rt:52:1
 returns-3 : tie.Need-returns-3
 returns-3 c = long-run _ _ _ _ _ _ _ _ _ (c .before .before .before .before .before .before .before .before .before .if1 .left) (omega arith) (c .before .before .before .before .before .before .mark2 .ensures) (c .before .before .put .ensures)
 

@@ -17,55 +17,42 @@ Inv-loop part₀ n bit first k₀ part k = (k ≤ n) × ((length part ≡ length
 abbrev μ-loop : tie.MeasureT-loop
 μ-loop part₀ n bit first k₀ part k = n - k
 
--- src/renew.rt:30:5
 loop-holds : tie.Need-loop-holds Inv-loop μ-loop
 loop-holds c = (zero-le, (refl, mark-none _ _ _))
 
--- src/renew.rt:31:19
 add-at : tie.Need-add-at Inv-loop μ-loop
 add-at c = search needs
 
--- src/renew.rt:31:18
 cast-at : tie.Need-cast-at Inv-loop μ-loop
 cast-at c = search needs
 
--- src/renew.rt:32:34
 mul-bit-word : tie.Need-mul-bit-word Inv-loop μ-loop
 mul-bit-word c = search needs
 
--- src/renew.rt:32:34
 slice-read-bit-word : tie.Need-slice-read-bit-word Inv-loop μ-loop
 slice-read-bit-word c = search needs
 
--- src/renew.rt:32:20
 bit-word-requires : tie.Need-bit-word-requires Inv-loop μ-loop
 bit-word-requires c κs = search needs
 
--- src/renew.rt:32:9
 mul-part : tie.Need-mul-part Inv-loop μ-loop
 mul-part c = search needs
 
--- src/renew.rt:32:9
 slice-write-part : tie.Need-slice-write-part Inv-loop μ-loop
 slice-write-part c = search needs
 
--- src/renew.rt:33:9
 add-k : tie.Need-add-k Inv-loop μ-loop
 add-k c = search needs
 
--- src/renew.rt:30:5
 loop-less : tie.Need-loop-less Inv-loop μ-loop
 loop-less c = search needs
 
--- src/renew.rt:30:5
 loop-again : tie.Need-loop-again Inv-loop μ-loop
 loop-again c = (omega arith, (simp length-set (omega arith), mark-more _ _ _ _ _ _ (omega arith) (c .before .before .before .loop .inv .1 .1) (c .bit-word .ensures)))
 
--- src/renew.rt:23:1
 same-length : tie.Need-same-length Inv-loop μ-loop
 same-length c = c .before .loop .inv .1 .0
 
--- src/renew.rt:23:1
 returns : tie.Need-returns Inv-loop μ-loop
 returns c =
     let e : c .before .loop .k ≡ c .before .before .before .args .n = omega arith in

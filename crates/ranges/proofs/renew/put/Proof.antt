@@ -9,75 +9,57 @@ use Rattle.words.specs.Wrapping.{wrapSub}
 use Rattle.runs.specs.Walk.{entryOf}
 use Rattle.runs.proofs.RenewLaws.{put-is}
 
--- src/renew.rt:39:18
 sub-ranges : tie.Need-sub-ranges
 sub-ranges c = search needs
 
--- src/renew.rt:39:5
 mul-ranges : tie.Need-mul-ranges
 mul-ranges c = search needs
 
--- src/renew.rt:39:5
 slice-write-ranges : tie.Need-slice-write-ranges
 slice-write-ranges c = search needs
 
--- src/renew.rt:40:12
 add-ranges : tie.Need-add-ranges
 add-ranges c = search needs
 
--- src/renew.rt:40:5
 mul-ranges-2 : tie.Need-mul-ranges-2
 mul-ranges-2 c = search needs
 
--- src/renew.rt:40:5
 slice-write-ranges-2 : tie.Need-slice-write-ranges-2
 slice-write-ranges-2 c = simp length-set (omega arith)
 
--- src/renew.rt:41:29
 frame-in-requires : tie.Need-frame-in-requires
 frame-in-requires c κs = search needs
 
--- src/renew.rt:41:47
 sub-t12 : tie.Need-sub-t12
 sub-t12 c = search needs
 
--- src/renew.rt:41:22
 offset-requires : tie.Need-offset-requires
 offset-requires c κs = search needs
 
--- src/renew.rt:41:12
 add-ranges-2 : tie.Need-add-ranges-2
 add-ranges-2 c = search needs
 
--- src/renew.rt:41:5
 mul-ranges-3 : tie.Need-mul-ranges-3
 mul-ranges-3 c = search needs
 
--- src/renew.rt:41:5
 slice-write-ranges-3 : tie.Need-slice-write-ranges-3
 slice-write-ranges-3 c = simp length-set (omega arith)
 
--- src/renew.rt:42:22
 rights-in-requires : tie.Need-rights-in-requires
 rights-in-requires c κs = search needs
 
--- src/renew.rt:42:12
 add-ranges-3 : tie.Need-add-ranges-3
 add-ranges-3 c = search needs
 
--- src/renew.rt:42:5
 mul-ranges-4 : tie.Need-mul-ranges-4
 mul-ranges-4 c = search needs
 
--- src/renew.rt:42:5
 slice-write-ranges-4 : tie.Need-slice-write-ranges-4
 slice-write-ranges-4 c = simp length-set (omega arith)
 
--- src/renew.rt:32:1
 same-length : tie.Need-same-length
 same-length c = search needs
 
--- src/renew.rt:32:1
 returns : tie.Need-returns
 unfolding entryOf
 returns c = put-is (c .before .before .before .before .args .ranges .now) (c .before .before .before .before .args .at) (c .before .before .before .before .args .limit - c .before .before .before .before .args .n) (c .before .before .before .before .args .limit) _ _ _ _ (c .before .offset .ensures ∙ ap (λ (x : ℕ). wrapSub 32 x (c .before .before .before .before .args .limit - 1)) (c .before .before .frame-in .ensures)) (c .rights-in .ensures)

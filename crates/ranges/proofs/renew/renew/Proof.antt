@@ -23,112 +23,88 @@ Inv-loop part₀ ranges₀ n₀ v₀ at₀ i₀ part ranges n v at i = Renewing 
 abbrev μ-loop : tie.MeasureT-loop
 μ-loop part₀ ranges₀ n₀ v₀ at₀ i₀ part ranges n v at i = 1024 - i
 
--- src/renew.rt:98:5
 loop-holds : tie.Need-loop-holds Inv-loop μ-loop
 loop-holds c = renew-start _ _ (omega arith) (omega arith)
 
--- src/renew.rt:99:22
 cast-w : tie.Need-cast-w Inv-loop μ-loop
 cast-w c = search needs
 
--- src/renew.rt:99:17
 mul-w : tie.Need-mul-w Inv-loop μ-loop
 mul-w c = search needs
 
--- src/renew.rt:99:17
 slice-read-w : tie.Need-slice-read-w Inv-loop μ-loop
 slice-read-w c = search needs
 
--- src/renew.rt:100:13
 joined-requires : tie.Need-joined-requires Inv-loop μ-loop
 joined-requires c κs = search needs
 
--- src/renew.rt:101:9
 end-run-requires : tie.Need-end-run-requires Inv-loop μ-loop
 end-run-requires c κs = (omega arith, (omega arith, (room-step _ _ _ _ _ _ _ (c .before .before .before .before .before .loop .inv) _ _ (omega arith) refl (c .before .before .joined .ensures), (run-le _ _ _ _ _ _ (c .before .before .before .before .before .loop .inv .walked), omega arith))))
 
--- src/renew.rt:102:37
 range-bit-requires : tie.Need-range-bit-requires Inv-loop μ-loop
 range-bit-requires c κs = search needs
 
--- src/renew.rt:102:28
 bit-word-requires : tie.Need-bit-word-requires Inv-loop μ-loop
 bit-word-requires c κs = search needs
 
--- src/renew.rt:102:14
 cast-part : tie.Need-cast-part Inv-loop μ-loop
 cast-part c = search needs
 
--- src/renew.rt:102:9
 mul-part : tie.Need-mul-part Inv-loop μ-loop
 mul-part c = search needs
 
--- src/renew.rt:102:9
 slice-write-part : tie.Need-slice-write-part Inv-loop μ-loop
 slice-write-part c = search needs
 
--- src/renew.rt:103:37
 add-n : tie.Need-add-n Inv-loop μ-loop
 add-n c = search needs
 
--- src/renew.rt:103:13
 over-requires : tie.Need-over-requires Inv-loop μ-loop
 over-requires c κs =
     let k : length (c .before .before .before .before .before .before .before .end-run .last .0) ≡ 1024 = omega arith in
     (length-set {A = ℕ} (c .before .before .before .before .before .before .before .end-run .last .0) (c .before .before .before .before .before .before .before .before .before .before .before .before .before .loop .i) (c .before .bit-word .result) ∙ k, omega arith)
 
--- src/renew.rt:104:13
 goes-on-requires : tie.Need-goes-on-requires Inv-loop μ-loop
 goes-on-requires c κs = omega (arith, run-le _ _ _ _ _ _ (c .before .before .before .before .before .before .before .before .before .before .before .before .before .before .loop .inv .walked))
 
--- src/renew.rt:104:13
 add-n-2 : tie.Need-add-n-2 Inv-loop μ-loop
 add-n-2 c =
     let st = renew-step _ _ _ _ _ _ _ (c .before .before .before .before .before .before .before .before .before .before .before .before .before .before .before .before .loop .inv) _ _ _ _ _ _ _ _ (omega arith) refl (omega arith) (c .before .before .before .before .before .before .before .before .before .before .before .before .before .joined .ensures) (c .before .before .before .before .before .range-bit .ensures) (c .before .before .before .before .bit-word .ensures) (c .before .goes-on .ensures) (c .before .before .before .before .before .before .before .before .before .before .end-run .ensures) in
     let r = along-room _ _ _ _ _ (omega arith) (c .before .before .over .ensures .0) in
     omega (arith, r .0, r .1, run-le _ _ _ _ _ _ (st .walked))
 
--- src/renew.rt:106:14
 add-i : tie.Need-add-i Inv-loop μ-loop
 add-i c = let r = along-room _ _ _ _ _ (omega arith) (c .before .before .before .over .ensures .0) in omega (arith, r .0)
 
--- src/renew.rt:106:9
 add-i-2 : tie.Need-add-i-2 Inv-loop μ-loop
 add-i-2 c = let r = along-room _ _ _ _ _ (omega arith) (c .before .before .before .over .ensures .0) in omega (arith, r .0)
 
--- src/renew.rt:98:5
 loop-less : tie.Need-loop-less Inv-loop μ-loop
 loop-less c = omega arith
 
--- src/renew.rt:98:5
 loop-again : tie.Need-loop-again Inv-loop μ-loop
 loop-again c =
     let st = renew-step _ _ _ _ _ _ _ (c .before .before .before .before .before .before .before .before .before .before .before .before .before .before .before .before .before .loop .inv) _ _ _ _ _ _ _ _ (omega arith) refl (omega arith) (c .before .before .before .before .before .before .before .before .before .before .before .before .before .before .joined .ensures) (c .before .before .before .before .before .before .range-bit .ensures) (c .before .before .before .before .before .bit-word .ensures) (c .before .before .goes-on .ensures) (c .before .before .before .before .before .before .before .before .before .before .before .end-run .ensures) in
     renew-along _ _ _ _ _ _ _ _ _ _ _ st (c .before .before .before .over .ensures .0) (omega arith) (c .before .before .before .over .ensures .1)
 
--- src/renew.rt:108:5
 end-run-requires-2 : tie.Need-end-run-requires-2 Inv-loop μ-loop
 end-run-requires-2 c κs =
     let e : c .before .before .before .loop .i ≡ 1024 = omega (arith, c .before .before .before .loop .inv .walked .inside) in
     let r = room-end _ _ _ _ _ _ _ (c .before .before .before .loop .inv) e in
     (omega arith, (omega arith, (rw e at r, (omega (arith, run-le _ _ _ _ _ _ (c .before .before .before .loop .inv .walked)), omega arith))))
 
--- src/renew.rt:109:5
 zero-from-requires : tie.Need-zero-from-requires Inv-loop μ-loop
 zero-from-requires c κs =
     let e : c .before .before .before .before .before .before .before .before .before .loop .i ≡ 1024 = omega (arith, c .before .before .before .before .before .before .before .before .before .loop .inv .walked .inside) in
     let r = c .before .before .before .before .before .end-run2 .ensures in
     renew-place _ _ _ _ _ _ _ (c .before .before .before .before .before .before .before .before .before .loop .inv) _ _ _ e (rw (← e) at r)
 
--- src/renew.rt:88:1
 same-length : tie.Need-same-length Inv-loop μ-loop
 same-length c = search needs
 
--- src/renew.rt:88:1
 same-length-2 : tie.Need-same-length-2 Inv-loop μ-loop
 same-length-2 c = search needs
 
--- src/renew.rt:88:1
 returns : tie.Need-returns Inv-loop μ-loop
 returns c =
     let e : c .before .before .before .before .before .before .before .before .before .before .before .before .loop .i ≡ 1024 = omega (arith, c .before .before .before .before .before .before .before .before .before .before .before .before .loop .inv .walked .inside) in

@@ -3,15 +3,12 @@ use Rattle.ranges.proofs.renew.zero_from.Statement.{statement}
 use Rattle.ranges.proofs.renew.zero_from.Tie as tie
 use Rattle.runs.proofs.RenewLaws.{zero-filled}
 
--- src/renew.rt:85:5
 fill-requires : tie.Need-fill-requires
 fill-requires c κs = search needs
 
--- src/renew.rt:81:1
 same-length : tie.Need-same-length
 same-length c = search needs
 
--- src/renew.rt:81:1
 returns : tie.Need-returns
 returns c = zero-filled _ _ _ (c .before .before .fill .ensures) (search needs) (search needs)
 

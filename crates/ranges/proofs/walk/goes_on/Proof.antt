@@ -5,28 +5,22 @@ use mathlib.Core.Path.{sym, ap, _∙_}
 use Rattle.words.specs.Counts.{one-if}
 use Rattle.runs.proofs.WordLaws.{goes-join, goes-new}
 
--- src/walk.rt:33:8
 joined-requires : tie.Need-joined-requires
 joined-requires c κs = search needs
 
--- src/walk.rt:34:16
 add-result : tie.Need-add-result
 add-result c = search needs
 
--- src/walk.rt:34:9
 returns : tie.Need-returns
 returns c = sym (goes-join _ _ _ (sym (c .before .joined .ensures) ∙ c .if1 .taken))
 
--- src/walk.rt:36:8
 mapped-requires : tie.Need-mapped-requires
 mapped-requires c κs = search needs
 
--- src/walk.rt:37:9
 returns-2 : tie.Need-returns-2
 unfolding one-if
 returns-2 c = sym (goes-new _ _ _ (sym (c .before .before .before .joined .ensures) ∙ c .before .before .if1 .left) ∙ ap one-if (sym (c .before .mapped .ensures) ∙ c .if2 .taken))
 
--- src/walk.rt:29:1
 returns-3 : tie.Need-returns-3
 unfolding one-if
 returns-3 c = sym (goes-new _ _ _ (sym (c .before .before .before .joined .ensures) ∙ c .before .before .if1 .left) ∙ ap one-if (sym (c .before .mapped .ensures) ∙ c .if2 .left))

@@ -9,47 +9,36 @@ use borrow.Author.Tests.{not-true, not-false}
 use Rattle.words.proofs.Cases.{true-false}
 use Rattle.runs.proofs.WordLaws.{frame-lt, not-joins, by-rights}
 
--- src/walk.rt:13:9
 mapped-requires : tie.Need-mapped-requires
 mapped-requires c κs = search needs
 
--- src/walk.rt:14:9
 returns : tie.Need-returns
 returns c = not-joins _ _ (λ j. true-false _ (j .this) (sym (c .before .mapped .ensures) ∙ not-true _ (c .if1 .taken)))
 
--- src/walk.rt:16:9
 mapped-requires-2 : tie.Need-mapped-requires-2
 mapped-requires-2 c κs = search needs
 
--- src/walk.rt:17:9
 returns-2 : tie.Need-returns-2
 returns-2 c = not-joins _ _ (λ j. true-false _ (j .next) (sym (c .before .mapped2 .ensures) ∙ not-true _ (c .if2 .taken)))
 
--- src/walk.rt:19:9
 frame-in-requires : tie.Need-frame-in-requires
 frame-in-requires c κs = search needs
 
--- src/walk.rt:20:9
 frame-in-requires-2 : tie.Need-frame-in-requires-2
 frame-in-requires-2 c κs = search needs
 
--- src/walk.rt:21:15
 add-if3 : tie.Need-add-if3
 add-if3 c = omega (arith, c .before .before .frame-in .ensures, frame-lt (c .before .before .before .before .before .before .before .args .v))
 
--- src/walk.rt:22:9
 returns-3 : tie.Need-returns-3
 returns-3 c = not-joins _ _ (λ j. c .if3 .taken (c .before .before .before .frame-in2 .ensures ∙ j .frame ∙ ap (λ (x : ℕ). x + 1) (sym (c .before .before .before .before .frame-in .ensures))))
 
--- src/walk.rt:24:9
 rights-in-requires : tie.Need-rights-in-requires
 rights-in-requires c κs = search needs
 
--- src/walk.rt:25:5
 rights-in-requires-2 : tie.Need-rights-in-requires-2
 rights-in-requires-2 c κs = search needs
 
--- src/walk.rt:10:1
 returns-4 : tie.Need-returns-4
 returns-4 c =
     let this = sym (c .before .before .before .before .before .before .before .before .before .before .mapped .ensures) ∙ not-false _ (c .before .before .before .before .before .before .before .before .before .if1 .left) in

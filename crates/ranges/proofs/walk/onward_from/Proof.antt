@@ -10,47 +10,36 @@ use Rattle.ranges.proofs.page_words.frame_in.Reads as frame-in-reads
 use Rattle.ranges.proofs.walk.least.Reads as least-reads
 use Rattle.words.proofs.scans.counts_beside.Reads as counts-beside-reads
 
--- src/walk.rt:67:9
 frame-in-requires : tie.Need-frame-in-requires
 frame-in-requires c κs = search needs
 
--- src/walk.rt:68:16
 cast-from : tie.Need-cast-from
 cast-from c = search needs
 
--- src/walk.rt:69:22
 sub-least : tie.Need-sub-least
 sub-least c = search needs
 
--- src/walk.rt:69:34
 sub-least-2 : tie.Need-sub-least-2
 sub-least-2 c = omega (arith, c .before .before .before .frame-in .ensures, frame-lt (c .before .before .before .before .before .args .v))
 
--- src/walk.rt:69:9
 least-requires : tie.Need-least-requires
 least-requires c κs = search needs
 
--- src/walk.rt:70:31
 add-counts-beside : tie.Need-add-counts-beside
 add-counts-beside c = omega (arith, mapped-lt _ (c .before .before .before .before .before .before .pre .1 .1))
 
--- src/walk.rt:70:50
 add-counts-beside-2 : tie.Need-add-counts-beside-2
 add-counts-beside-2 c = omega (arith, mapped-lt _ (c .before .before .before .before .before .before .pre .1 .1))
 
--- src/walk.rt:70:57
 cast-counts-beside : tie.Need-cast-counts-beside
 cast-counts-beside c = search needs
 
--- src/walk.rt:70:5
 counts-beside-requires : tie.Need-counts-beside-requires
 counts-beside-requires c κs = let low = mapped-lt _ (c .before .before .before .before .before .before .pre .1 .1) in ((omega arith, omega arith), (omega arith, omega arith))
 
--- src/walk.rt:70:5
 cast-result : tie.Need-cast-result
 cast-result c = search needs
 
--- src/walk.rt:61:1
 returns : tie.Need-returns
 returns c = onward-scanned _ _ _ _ _ _ _ _ (omega arith) (c .before .least .ensures .0) (omega (arith, c .before .least .ensures .1, c .before .before .before .before .before .frame-in .ensures)) (c .counts-beside .ensures)
 

@@ -14,35 +14,27 @@ use Rattle.ranges.proofs.walk.nowhere.Reads as nowhere-reads
 use Rattle.ranges.proofs.walk.onward_from.Reads as onward-from-reads
 use Rattle.ranges.proofs.walk.over_empty.Reads as over-empty-reads
 
--- src/walk.rt:116:9
 over-empty-requires : tie.Need-over-empty-requires
 over-empty-requires c κs = search needs
 
--- src/walk.rt:116:9
 returns : tie.Need-returns
 returns c = (along-empty _ _ _ _ _ (c .before .if1 .taken) (c .over-empty .ensures .0) (c .over-empty .ensures .1 .0), omega (arith, c .before .if1 .taken, c .over-empty .ensures .1 .0, c .over-empty .ensures .1 .1))
 
--- src/walk.rt:118:9
 mapped-requires : tie.Need-mapped-requires
 mapped-requires c κs = search needs
 
--- src/walk.rt:119:9
 nowhere-requires : tie.Need-nowhere-requires
 nowhere-requires c κs = search needs
 
--- src/walk.rt:119:9
 returns-2 : tie.Need-returns-2
 returns-2 c = (along-nowhere _ _ _ _ _ (c .nowhere .ensures .0 .0) (c .nowhere .ensures .0 .1), c .nowhere .ensures .1)
 
--- src/walk.rt:121:9
 onward-from-requires : tie.Need-onward-from-requires
 onward-from-requires c κs = (c .before .before .before .before .pre .0, (c .before .before .before .before .pre .1, sym (c .before .mapped .ensures) ∙ not-false _ (c .if2 .left)))
 
--- src/walk.rt:125:15
 add-t7 : tie.Need-add-t7
 add-t7 c = omega (arith, mapped-lt _ (sym (c .before .before .mapped .ensures) ∙ not-false _ (c .before .if2 .left)), c .onward-from .ensures .room)
 
--- src/walk.rt:109:1
 returns-3 : tie.Need-returns-3
 returns-3 c = (onward (sym (c .before .before .mapped .ensures) ∙ not-false _ (c .before .if2 .left)) (c .onward-from .ensures), refl)
 

@@ -7,23 +7,18 @@ use Rattle.ranges.proofs.walk.over_empty.Reads as reads
 use Rattle.ranges.proofs.walk.over_empty.Lts as lts
 use Rattle.words.proofs.scans.zero_to.Reads as zero-to-reads
 
--- src/walk.rt:99:16
 cast-from : tie.Need-cast-from
 cast-from c = search needs
 
--- src/walk.rt:100:9
 zero-to-requires : tie.Need-zero-to-requires
 zero-to-requires c κs = search needs
 
--- src/walk.rt:102:17
 sub-t5 : tie.Need-sub-t5
 sub-t5 c = search needs
 
--- src/walk.rt:102:16
 cast-t6 : tie.Need-cast-t6
 cast-t6 c = search needs
 
--- src/walk.rt:93:1
 returns : tie.Need-returns
 returns c = (empty-scanned _ _ _ (c .zero-to .ensures .0), (refl, refl))
 

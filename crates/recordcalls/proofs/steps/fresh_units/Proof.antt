@@ -10,11 +10,9 @@ use Rattle.recordcalls.proofs.steps.fresh_units.Reads as reads
 use Rattle.recordcalls.proofs.steps.fresh_units.Lts as lts
 use Rattle.units.proofs.fresh.Reads as fresh-reads
 
--- src/steps.rt:19:9
 fresh-requires : tie.Need-fresh-requires
 fresh-requires c κs = search needs
 
--- src/steps.rt:16:1
 returns : tie.Need-returns
 returns c = both-fresh _ (fresh-unit (tables [] [] [] []) freshUnit _ _ (c .before .fresh .ensures (tables [] [] [] []) freshUnit))
 

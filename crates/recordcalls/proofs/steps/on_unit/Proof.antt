@@ -13,67 +13,51 @@ use Rattle.recordcalls.proofs.steps.unit_at.Reads as unit-at-reads
 use Rattle.recordcalls.proofs.steps.with_unit.Reads as with-unit-reads
 use Rattle.units.proofs.perform.Reads as perform-reads
 
--- src/steps.rt:88:34
 unit-at-requires : tie.Need-unit-at-requires
 unit-at-requires c κs = search needs
 
--- src/steps.rt:88:9
 perform-requires : tie.Need-perform-requires
 perform-requires c κs = search needs
 
--- src/steps.rt:90:9
 outcome-requires : tie.Need-outcome-requires
 outcome-requires c κs = search needs
 
--- src/steps.rt:91:8
 renews-requires : tie.Need-renews-requires
 renews-requires c κs = search needs
 
--- src/steps.rt:95:20
 fresh-units-requires : tie.Need-fresh-units-requires
 fresh-units-requires c κs = search needs
 
--- src/steps.rt:92:9
 same-length : tie.Need-same-length
 same-length c = search needs
 
--- src/steps.rt:92:9
 same-length-2 : tie.Need-same-length-2
 same-length-2 c = search needs
 
--- src/steps.rt:92:9
 same-length-3 : tie.Need-same-length-3
 same-length-3 c = search needs
 
--- src/steps.rt:92:9
 same-length-4 : tie.Need-same-length-4
 same-length-4 c = search needs
 
--- src/steps.rt:92:9
 returns : tie.Need-returns
 returns c = makes-on _ _ _ _ _ _ _ _ _ _ _ (c .before .before .before .before .before .before .before .before .before .before .before .before .before .before .before .before .before .unit-at .ensures) (c .before .before .before .before .before .before .before .before .before .before .before .before .perform .ensures) (c .before .before .before .outcome .ensures) (c .fresh-units .ensures ∙ renew _ _ _ _ (c .before .before .renews .ensures) (c .before .if1 .taken))
 
--- src/steps.rt:101:16
 with-unit-requires : tie.Need-with-unit-requires
 with-unit-requires c κs = search needs
 
--- src/steps.rt:76:1
 same-length-5 : tie.Need-same-length-5
 same-length-5 c = search needs
 
--- src/steps.rt:76:1
 same-length-6 : tie.Need-same-length-6
 same-length-6 c = search needs
 
--- src/steps.rt:76:1
 same-length-7 : tie.Need-same-length-7
 same-length-7 c = search needs
 
--- src/steps.rt:76:1
 same-length-8 : tie.Need-same-length-8
 same-length-8 c = search needs
 
--- src/steps.rt:76:1
 returns-2 : tie.Need-returns-2
 returns-2 c = makes-on _ _ _ _ _ _ _ _ _ _ _ (c .before .before .before .before .before .before .before .before .before .before .before .before .before .before .before .before .before .unit-at .ensures) (c .before .before .before .before .before .before .before .before .before .before .before .before .perform .ensures) (c .before .before .before .outcome .ensures) (stay _ _ _ _ (c .before .before .renews .ensures) (c .before .if1 .left) ∙ ap (renewed _ _) (c .with-unit .ensures))
 

@@ -7,15 +7,12 @@ use Rattle.recordcalls.proofs.steps.renews.Reads as reads
 use Rattle.recordcalls.proofs.steps.renews.Lts as lts
 use Rattle.tables.proofs.outcome.Reads as outcome-reads
 
--- src/steps.rt:70:9
 returns : tie.Need-returns
 returns c = other-kind (c .before .args .kind) (outcome (c .before .args .a)) (c .if1 .taken)
 
--- src/steps.rt:72:9
 outcome-requires : tie.Need-outcome-requires
 outcome-requires c κs = search needs
 
--- src/steps.rt:66:1
 returns-2 : tie.Need-returns-2
 returns-2 c = by-number (c .before .before .before .args .kind) (outcome (c .before .before .before .args .a)) (c .before .before .if1 .left) _ (c .before .outcome .ensures)
 

@@ -7,43 +7,33 @@ use Rattle.recordcalls.proofs.steps.take.Lts as lts
 use Rattle.recordcalls.proofs.steps.malformed.Reads as malformed-reads
 use Rattle.recordcalls.proofs.steps.on_unit.Reads as on-unit-reads
 
--- src/steps.rt:139:28
 enum-known-m : tie.Need-enum-known-m
 enum-known-m c = search needs
 
--- src/steps.rt:141:22
 malformed-requires : tie.Need-malformed-requires
 malformed-requires c κs = search needs
 
--- src/steps.rt:144:26
 enum-known-m-2 : tie.Need-enum-known-m-2
 enum-known-m-2 c = search needs
 
--- src/steps.rt:144:48
 on-unit-requires : tie.Need-on-unit-requires
 on-unit-requires c κs = search needs
 
--- src/steps.rt:128:1
 returns : tie.Need-returns
 returns c = skips _ _ _ _ _ (c .before .before .m .given .1) (c .malformed .ensures)
 
--- src/steps.rt:128:1
 same-length : tie.Need-same-length
 same-length c = search needs
 
--- src/steps.rt:128:1
 same-length-2 : tie.Need-same-length-2
 same-length-2 c = search needs
 
--- src/steps.rt:128:1
 same-length-3 : tie.Need-same-length-3
 same-length-3 c = search needs
 
--- src/steps.rt:128:1
 same-length-4 : tie.Need-same-length-4
 same-length-4 c = search needs
 
--- src/steps.rt:128:1
 returns-2 : tie.Need-returns-2
 returns-2 c = asks _ _ _ _ _ _ _ _ (c .before .before .before .before .before .before .before .before .before .before .before .before .before .before .m2 .given .1) (c .before .before .before .before .before .before .before .before .on-unit .ensures)
 

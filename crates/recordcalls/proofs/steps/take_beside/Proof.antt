@@ -9,67 +9,51 @@ use Rattle.recordcalls.proofs.steps.malformed.Reads as malformed-reads
 use Rattle.recordcalls.proofs.steps.renews.Reads as renews-reads
 use Rattle.units.proofs.on_tables.Reads as on-tables-reads
 
--- src/steps.rt:168:28
 enum-known-m : tie.Need-enum-known-m
 enum-known-m c = search needs
 
--- src/steps.rt:170:22
 malformed-requires : tie.Need-malformed-requires
 malformed-requires c κs = search needs
 
--- src/steps.rt:173:26
 enum-known-m-2 : tie.Need-enum-known-m-2
 enum-known-m-2 c = search needs
 
--- src/steps.rt:174:28
 enum-known-call : tie.Need-enum-known-call
 enum-known-call c = search needs
 
--- src/steps.rt:175:21
 on-tables-requires : tie.Need-on-tables-requires
 on-tables-requires c κs = search needs
 
--- src/steps.rt:178:30
 outcome-requires : tie.Need-outcome-requires
 outcome-requires c κs = search needs
 
--- src/steps.rt:179:29
 renews-requires : tie.Need-renews-requires
 renews-requires c κs = search needs
 
--- src/steps.rt:184:26
 enum-told : tie.Need-enum-told
 enum-told c = search needs
 
--- src/steps.rt:184:26
 malformed-requires-2 : tie.Need-malformed-requires-2
 malformed-requires-2 c κs = search needs
 
--- src/steps.rt:157:1
 returns : tie.Need-returns
 returns c = skips-beside _ _ _ _ (c .before .before .m .given .1) (c .malformed .ensures)
 
--- src/steps.rt:157:1
 same-length : tie.Need-same-length
 same-length c = search needs
 
--- src/steps.rt:157:1
 same-length-2 : tie.Need-same-length-2
 same-length-2 c = search needs
 
--- src/steps.rt:157:1
 same-length-3 : tie.Need-same-length-3
 same-length-3 c = search needs
 
--- src/steps.rt:157:1
 same-length-4 : tie.Need-same-length-4
 same-length-4 c = search needs
 
--- src/steps.rt:157:1
 returns-2 : tie.Need-returns-2
 returns-2 c = makes-beside _ _ _ _ _ _ _ (c .before .before .before .before .before .before .before .before .before .before .before .before .before .before .before .before .before .before .before .m2 .given .1) (c .before .before .before .before .before .before .before .before .before .before .before .before .before .before .before .before .call .given .1) _ _ _ (c .before .before .before .before .before .before .before .before .before .before .on-tables .ensures) (c .before .outcome .ensures) (c .renews .ensures)
 
--- src/steps.rt:157:1
 returns-3 : tie.Need-returns-3
 returns-3 c = absurd (needs-one _ _ _ _ _ (c .before .before .before .before .m2 .given .1) (c .before .enum-told .given .1) (c .before .before .before .before .before .before .before .before .before .before .pre))
 

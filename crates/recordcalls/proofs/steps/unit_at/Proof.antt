@@ -5,12 +5,10 @@ use Rattle.recordcalls.proofs.steps.unit_at.Tie as tie
 use Rattle.recordcalls.proofs.steps.unit_at.Reads as reads
 use Rattle.recordcalls.proofs.steps.unit_at.Lts as lts
 
--- src/steps.rt:32:9
 returns : tie.Need-returns
 unfolding unitAt
 returns c = rw (c .before .if1 .taken)
 
--- src/steps.rt:28:1
 returns-2 : tie.Need-returns-2
 unfolding unitAt
 returns-2 c = rw (ne-eqb _ _ (c .before .if1 .left))

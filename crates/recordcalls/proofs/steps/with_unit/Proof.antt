@@ -5,12 +5,10 @@ use Rattle.recordcalls.proofs.steps.with_unit.Tie as tie
 use Rattle.recordcalls.proofs.steps.with_unit.Reads as reads
 use Rattle.recordcalls.proofs.steps.with_unit.Lts as lts
 
--- src/steps.rt:44:9
 returns : tie.Need-returns
 unfolding withUnitAt
 returns c = rw (c .if1 .taken)
 
--- src/steps.rt:38:1
 returns-2 : tie.Need-returns-2
 unfolding withUnitAt
 returns-2 c = rw (ne-eqb _ _ (c .if1 .left))

@@ -6,23 +6,18 @@ use Rattle.records.proofs.input.fetch.Reads as reads
 use Rattle.records.proofs.input.fetch.Lts as lts
 use Rattle.records.proofs.input.next_of.Reads as next-of-reads
 
--- src/input.rt:140:13
 sub-next-of : tie.Need-sub-next-of
 sub-next-of c = search needs
 
--- src/input.rt:140:13
 part-next-of-start : tie.Need-part-next-of-start
 part-next-of-start c = search needs
 
--- src/input.rt:140:13
 part-next-of-end : tie.Need-part-next-of-end
 part-next-of-end c = search needs
 
--- src/input.rt:140:5
 next-of-requires : tie.Need-next-of-requires
 next-of-requires c κs = search needs
 
--- src/input.rt:133:1
 returns : tie.Need-returns
 unfolding waiting
 returns c = c .next-of .ensures

@@ -9,25 +9,20 @@ use Rattle.records.proofs.input.next_of.Lts as lts
 use Rattle.records.proofs.input.asked.Reads as asked-reads
 use Rattle.records.proofs.input.standing.Reads as standing-reads
 
--- src/input.rt:123:9
 returns : tie.Need-returns
 returns c = none-left _ (c .if1 .taken)
 
--- src/input.rt:125:9
 standing-requires : tie.Need-standing-requires
 standing-requires c κs = search needs
 
--- src/input.rt:127:9
 returns-2 : tie.Need-returns-2
 returns-2 c = cut-short _ (c .before .before .if1 .left) (sym (c .before .standing .ensures .0) ∙ c .if2 .taken)
 
--- src/input.rt:129:17
 asked-requires : tie.Need-asked-requires
 asked-requires c κs =
     let e = record-is (c .before .before .before .before .args .bytes .now) (c .before .before .if1 .left) _ (c .before .standing .ensures .0) (c .if2 .left) in
     (omega arith, c .before .standing .ensures .1 .0)
 
--- src/input.rt:119:1
 returns-3 : tie.Need-returns-3
 returns-3 c = all-there _ (c .before .before .before .if1 .left) _ (c .before .before .standing .ensures .0) (c .before .if2 .left) _ (c .asked .ensures)
 

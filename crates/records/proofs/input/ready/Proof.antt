@@ -9,23 +9,18 @@ use Rattle.records.proofs.input.ready.Reads as reads
 use Rattle.records.proofs.input.ready.Lts as lts
 use Rattle.records.proofs.input.standing.Reads as standing-reads
 
--- src/input.rt:49:18
 sub-standing : tie.Need-sub-standing
 sub-standing c = search needs
 
--- src/input.rt:49:18
 part-standing-start : tie.Need-part-standing-start
 part-standing-start c = search needs
 
--- src/input.rt:49:18
 part-standing-end : tie.Need-part-standing-end
 part-standing-end c = search needs
 
--- src/input.rt:49:9
 standing-requires : tie.Need-standing-requires
 standing-requires c κs = search needs
 
--- src/input.rt:42:1
 returns : tie.Need-returns
 unfolding waiting
 returns c = ap (λ (n : ℕ). ltb 0 n) (c .standing .ensures .0)

@@ -10,27 +10,21 @@ use Rattle.records.proofs.input.rest.Reads as reads
 use Rattle.records.proofs.input.rest.Lts as lts
 use Rattle.records.proofs.input.standing.Reads as standing-reads
 
--- src/input.rt:154:28
 sub-standing : tie.Need-sub-standing
 sub-standing c = search needs
 
--- src/input.rt:154:28
 part-standing-start : tie.Need-part-standing-start
 part-standing-start c = search needs
 
--- src/input.rt:154:28
 part-standing-end : tie.Need-part-standing-end
 part-standing-end c = search needs
 
--- src/input.rt:154:19
 standing-requires : tie.Need-standing-requires
 standing-requires c κs = search needs
 
--- src/input.rt:154:15
 add-t10 : tie.Need-add-t10
 add-t10 c = search needs
 
--- src/input.rt:144:1
 returns : tie.Need-returns
 unfolding waiting behind
 returns c =

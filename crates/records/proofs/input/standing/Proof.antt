@@ -8,35 +8,27 @@ use Rattle.records.proofs.input.standing.Reads as reads
 use Rattle.records.proofs.input.standing.Lts as lts
 use Rattle.records.proofs.records.word.Reads as word-reads
 
--- src/input.rt:32:9
 returns : tie.Need-returns
 returns c = (sym (no-head _ (c .if1 .taken)), (omega arith, λ z. omega arith))
 
--- src/input.rt:34:25
 shared-slice-read-word : tie.Need-shared-slice-read-word
 shared-slice-read-word c = search needs
 
--- src/input.rt:34:35
 shared-slice-read-word-2 : tie.Need-shared-slice-read-word-2
 shared-slice-read-word-2 c = search needs
 
--- src/input.rt:34:13
 word-requires : tie.Need-word-requires
 word-requires c κs = search needs
 
--- src/input.rt:34:13
 cast-n : tie.Need-cast-n
 cast-n c = search needs
 
--- src/input.rt:34:13
 add-n : tie.Need-add-n
 add-n c = search needs
 
--- src/input.rt:36:9
 returns-2 : tie.Need-returns-2
 returns-2 c = (sym (part-of _ _ (c .before .word .ensures .0) (omega arith) (c .if2 .taken)), (omega arith, λ z. omega arith))
 
--- src/input.rt:26:1
 returns-3 : tie.Need-returns-3
 returns-3 c = (sym (stands _ _ (c .before .word .ensures .0) (omega arith) (omega arith)), (omega arith, λ z. omega arith))
 

@@ -5,7 +5,6 @@ use Rattle.records.proofs.lines.heading.Tie as tie
 use Rattle.records.proofs.lines.heading.Reads as reads
 use Rattle.records.proofs.lines.heading.Lts as lts
 
--- src/lines.rt:11:1
 returns : tie.Need-returns
 unfolding header
 returns c = search needs

@@ -9,43 +9,33 @@ use Rattle.records.proofs.lines.line.Reads as reads
 use Rattle.records.proofs.lines.line.Lts as lts
 use Rattle.records.proofs.lines.put.Reads as put-reads
 
--- src/lines.rt:43:9
 put-requires : tie.Need-put-requires
 put-requires c κs = search needs
 
--- src/lines.rt:44:9
 put-requires-2 : tie.Need-put-requires-2
 put-requires-2 c κs = search needs
 
--- src/lines.rt:45:17
 cast-put : tie.Need-cast-put
 cast-put c = search needs
 
--- src/lines.rt:45:9
 put-requires-3 : tie.Need-put-requires-3
 put-requires-3 c κs = search needs
 
--- src/lines.rt:46:17
 cast-put-2 : tie.Need-cast-put-2
 cast-put-2 c = search needs
 
--- src/lines.rt:46:9
 put-requires-4 : tie.Need-put-requires-4
 put-requires-4 c κs = search needs
 
--- src/lines.rt:47:9
 cast-put-3 : tie.Need-cast-put-3
 cast-put-3 c = search needs
 
--- src/lines.rt:47:5
 put-requires-5 : tie.Need-put-requires-5
 put-requires-5 c κs = search needs
 
--- src/lines.rt:37:1
 same-length : tie.Need-same-length
 same-length c = search needs
 
--- src/lines.rt:37:1
 returns : tie.Need-returns
 returns c =
     let h : c .before .before .before .before .before .before .before .before .before .before .before .before .before .before .before .before .before .before .before .before .before .before .before .before .args .at ≤ length (c .before .before .before .before .before .before .before .before .before .before .before .before .before .before .before .before .before .before .before .before .before .before .before .before .args .out .now) = omega (arith, c .before .before .before .before .before .before .before .before .before .before .before .before .before .before .before .before .before .before .before .before .before .before .before .before .pre) in

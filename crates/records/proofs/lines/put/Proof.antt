@@ -9,33 +9,24 @@ use Rattle.records.proofs.lines.put.Lts as lts
 use Rattle.io.proofs.decimal.Reads as decimal-reads
 use Rattle.records.proofs.lines.copy.Reads as copy-reads
 
--- src/lines.rt:29:9
 decimal-requires : tie.Need-decimal-requires
 decimal-requires c κs = search needs
 
--- src/lines.rt:30:10
-
--- src/lines.rt:30:5
 copy-requires : tie.Need-copy-requires
 copy-requires c κs = let k : c .before .before .decimal .result ≤ 20 = twenty _ _ (c .before .before .decimal .ensures .1 .0) (omega arith) in (k, (c .before .before .decimal .ensures .0 .0, omega arith))
 
--- src/lines.rt:31:15
 add-end : tie.Need-add-end
 add-end c = let k : c .before .before .before .before .before .decimal .result ≤ 20 = twenty _ _ (c .before .before .before .before .before .decimal .ensures .1 .0) (omega arith) in omega arith
 
--- src/lines.rt:32:5
 slice-write-out : tie.Need-slice-write-out
 slice-write-out c = let k : c .before .before .before .before .before .decimal .result ≤ 20 = twenty _ _ (c .before .before .before .before .before .decimal .ensures .1 .0) (omega arith) in omega arith
 
--- src/lines.rt:33:5
 add-result : tie.Need-add-result
 add-result c = let k : c .before .before .before .before .before .decimal .result ≤ 20 = twenty _ _ (c .before .before .before .before .before .decimal .ensures .1 .0) (omega arith) in omega arith
 
--- src/lines.rt:23:1
 same-length : tie.Need-same-length
 same-length c = search needs
 
--- src/lines.rt:23:1
 returns : tie.Need-returns
 returns c =
     let k : c .before .before .before .before .before .decimal .result ≤ 20 = twenty _ _ (c .before .before .before .before .before .decimal .ensures .1 .0) (omega arith) in (

@@ -6,22 +6,18 @@ use Rattle.records.proofs.records.arguments.Tie as tie
 use Rattle.records.proofs.records.arguments.Reads as reads
 use Rattle.records.proofs.records.arguments.Lts as lts
 
--- src/records.rt:46:9
 returns : tie.Need-returns
 unfolding arguments
 returns c = (rw (lt-ltb _ _ (c .if1 .taken)), omega arith)
 
--- src/records.rt:49:9
 returns-2 : tie.Need-returns-2
 unfolding arguments
 returns-2 c = (rw (c .if2 .taken), omega arith)
 
--- src/records.rt:52:9
 returns-3 : tie.Need-returns-3
 unfolding arguments
 returns-3 c = (rw (c .if3 .taken), omega arith)
 
--- src/records.rt:42:1
 returns-4 : tie.Need-returns-4
 unfolding arguments
 returns-4 c = (rw (le-ltb _ _ (c .before .before .if1 .left), ne-eqb _ _ (c .before .if2 .left), ne-eqb _ _ (c .if3 .left)), omega arith)

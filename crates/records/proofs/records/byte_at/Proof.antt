@@ -6,15 +6,12 @@ use Rattle.records.proofs.records.byte_at.Tie as tie
 use Rattle.records.proofs.records.byte_at.Reads as reads
 use Rattle.records.proofs.records.byte_at.Lts as lts
 
--- src/records.rt:21:16
 shared-slice-read-result : tie.Need-shared-slice-read-result
 shared-slice-read-result c = search needs
 
--- src/records.rt:21:9
 returns : tie.Need-returns
 returns c = search needs
 
--- src/records.rt:17:1
 returns-2 : tie.Need-returns-2
 returns-2 c = let a = c .before .args in sym (List·getD-eq-default (a .bytes .now) 0 {n = a .i} (c .if1 .left))
 

@@ -7,114 +7,88 @@ use Rattle.records.proofs.records.call_by.Reads as reads
 use Rattle.records.proofs.records.call_by.Lts as lts
 use Rattle.records.proofs.records.argument.Reads as argument-reads
 
--- src/records.rt:79:30
 argument-requires : tie.Need-argument-requires
 argument-requires c κs = search needs
 
--- src/records.rt:80:25
 argument-requires-2 : tie.Need-argument-requires-2
 argument-requires-2 c κs = search needs
 
--- src/records.rt:81:26
 argument-requires-3 : tie.Need-argument-requires-3
 argument-requires-3 c κs = search needs
 
--- src/records.rt:83:20
 argument-requires-4 : tie.Need-argument-requires-4
 argument-requires-4 c κs = search needs
 
--- src/records.rt:84:20
 argument-requires-5 : tie.Need-argument-requires-5
 argument-requires-5 c κs = search needs
 
--- src/records.rt:85:20
 argument-requires-6 : tie.Need-argument-requires-6
 argument-requires-6 c κs = search needs
 
--- src/records.rt:86:21
 argument-requires-7 : tie.Need-argument-requires-7
 argument-requires-7 c κs = search needs
 
--- src/records.rt:89:20
 argument-requires-8 : tie.Need-argument-requires-8
 argument-requires-8 c κs = search needs
 
--- src/records.rt:90:20
 argument-requires-9 : tie.Need-argument-requires-9
 argument-requires-9 c κs = search needs
 
--- src/records.rt:91:20
 argument-requires-10 : tie.Need-argument-requires-10
 argument-requires-10 c κs = search needs
 
--- src/records.rt:94:20
 argument-requires-11 : tie.Need-argument-requires-11
 argument-requires-11 c κs = search needs
 
--- src/records.rt:95:20
 argument-requires-12 : tie.Need-argument-requires-12
 argument-requires-12 c κs = search needs
 
--- src/records.rt:96:20
 argument-requires-13 : tie.Need-argument-requires-13
 argument-requires-13 c κs = search needs
 
--- src/records.rt:97:21
 argument-requires-14 : tie.Need-argument-requires-14
 argument-requires-14 c κs = search needs
 
--- src/records.rt:100:20
 argument-requires-15 : tie.Need-argument-requires-15
 argument-requires-15 c κs = search needs
 
--- src/records.rt:101:19
 argument-requires-16 : tie.Need-argument-requires-16
 argument-requires-16 c κs = search needs
 
--- src/records.rt:102:21
 argument-requires-17 : tie.Need-argument-requires-17
 argument-requires-17 c κs = search needs
 
--- src/records.rt:104:29
 argument-requires-18 : tie.Need-argument-requires-18
 argument-requires-18 c κs = search needs
 
--- src/records.rt:75:1
 returns : tie.Need-returns
 unfolding callBy
 returns c = rw (c .before .match .keys1, c .argument .ensures)
 
--- src/records.rt:75:1
 returns-2 : tie.Need-returns-2
 unfolding callBy
 returns-2 c = rw (c .before .match .keys2, c .argument2 .ensures)
 
--- src/records.rt:75:1
 returns-3 : tie.Need-returns-3
 unfolding callBy
 returns-3 c = rw (c .before .match .keys3, c .argument3 .ensures)
 
--- src/records.rt:75:1
 returns-4 : tie.Need-returns-4
 unfolding callBy
 returns-4 c = rw (c .before .before .before .before .match .keys4, c .before .before .before .argument4 .ensures, c .before .before .argument5 .ensures, c .before .argument6 .ensures, c .argument7 .ensures)
 
--- src/records.rt:75:1
 returns-5 : tie.Need-returns-5
 unfolding callBy
 returns-5 c = rw (c .before .before .before .match .keys5, c .before .before .argument8 .ensures, c .before .argument9 .ensures, c .argument10 .ensures)
 
--- src/records.rt:75:1
 returns-6 : tie.Need-returns-6
 unfolding callBy
 returns-6 c = rw (c .before .before .before .before .match .keys6, c .before .before .before .argument11 .ensures, c .before .before .argument12 .ensures, c .before .argument13 .ensures, c .argument14 .ensures)
 
--- src/records.rt:75:1
 returns-7 : tie.Need-returns-7
 unfolding callBy
 returns-7 c = rw (c .before .before .before .match .keys7, c .before .before .argument15 .ensures, c .before .argument16 .ensures, c .argument17 .ensures)
 
--- src/records.rt:75:1
 returns-8 : tie.Need-returns-8
 unfolding callBy
 returns-8 c = rw (ne-eqb _ _ (c .before .match .rest .0 .0 .0 .0 .0 .0 .1), ne-eqb _ _ (c .before .match .rest .0 .0 .0 .0 .0 .1), ne-eqb _ _ (c .before .match .rest .0 .0 .0 .0 .1), ne-eqb _ _ (c .before .match .rest .0 .0 .0 .1), ne-eqb _ _ (c .before .match .rest .0 .0 .1), ne-eqb _ _ (c .before .match .rest .0 .1), ne-eqb _ _ (c .before .match .rest .1), c .argument18 .ensures)

@@ -9,43 +9,33 @@ use Rattle.records.proofs.records.record_length.Reads as record-length-
 use Rattle.records.proofs.records.unit_by.Reads as unit-by-reads
 use Rattle.records.proofs.records.word_at.Reads as word-at-reads
 
--- src/records.rt:113:9
 returns : tie.Need-returns
 returns c = too-short _ (c .if1 .taken)
 
--- src/records.rt:115:9
 word-at-requires : tie.Need-word-at-requires
 word-at-requires c κs = search needs
 
--- src/records.rt:117:9
 returns-2 : tie.Need-returns-2
 returns-2 c = kind-zero _ _ (c .before .word-at .ensures) (c .before .before .if1 .left) (c .if2 .taken)
 
--- src/records.rt:120:9
 returns-3 : tie.Need-returns-3
 returns-3 c = kind-above _ _ (c .before .before .word-at .ensures) (c .before .before .before .if1 .left) (c .if3 .taken)
 
--- src/records.rt:122:23
 record-length-requires : tie.Need-record-length-requires
 record-length-requires c κs = search needs
 
--- src/records.rt:123:9
 returns-4 : tie.Need-returns-4
 returns-4 c = wrong-length _ _ (c .before .before .before .before .word-at .ensures) (c .before .before .before .before .before .if1 .left) (c .before .before .before .if2 .left) (c .before .before .if3 .left) _ (c .before .record-length .ensures) (c .if4 .taken)
 
--- src/records.rt:125:9
 unit-by-requires : tie.Need-unit-by-requires
 unit-by-requires c κs = search needs
 
--- src/records.rt:127:9
 returns-5 : tie.Need-returns-5
 returns-5 c = no-unit _ _ (c .before .before .before .before .before .before .word-at .ensures) (c .before .before .before .before .before .before .before .if1 .left) (c .before .before .before .before .before .if2 .left) (c .before .before .before .before .if3 .left) _ (c .before .before .before .record-length .ensures) (c .before .before .if4 .left) _ (c .before .unit-by .ensures) (c .if5 .taken)
 
--- src/records.rt:132:15
 call-by-requires : tie.Need-call-by-requires
 call-by-requires c κs = search needs
 
--- src/records.rt:109:1
 returns-6 : tie.Need-returns-6
 returns-6 c = asked _ _ (c .before .before .before .before .before .before .before .word-at .ensures) (c .before .before .before .before .before .before .before .before .if1 .left) (c .before .before .before .before .before .before .if2 .left) (c .before .before .before .before .before .if3 .left) _ (c .before .before .before .before .record-length .ensures) (c .before .before .before .if4 .left) _ (c .before .before .unit-by .ensures) (c .before .if5 .left) _ (c .call-by .ensures)
 

@@ -8,19 +8,15 @@ use Rattle.records.proofs.records.record_length.Reads as reads
 use Rattle.records.proofs.records.record_length.Lts as lts
 use Rattle.records.proofs.records.arguments.Reads as arguments-reads
 
--- src/records.rt:61:13
 arguments-requires : tie.Need-arguments-requires
 arguments-requires c κs = search needs
 
--- src/records.rt:61:9
 mul-result : tie.Need-mul-result
 mul-result c = search needs
 
--- src/records.rt:61:5
 add-result : tie.Need-add-result
 add-result c = search needs
 
--- src/records.rt:58:1
 returns : tie.Need-returns
 unfolding recordLength
 returns c = ap (λ n. 2 + 2 * n) (c .arguments .ensures .0)

@@ -7,16 +7,13 @@ use Rattle.records.proofs.records.unit_by.Reads as reads
 use Rattle.records.proofs.records.unit_by.Lts as lts
 use Rattle.records.proofs.records.argument.Reads as argument-reads
 
--- src/records.rt:69:9
 argument-requires : tie.Need-argument-requires
 argument-requires c κs = search needs
 
--- src/records.rt:69:9
 returns : tie.Need-returns
 unfolding unitBy
 returns c = rw (c .before .if1 .taken) (c .argument .ensures)
 
--- src/records.rt:65:1
 returns-2 : tie.Need-returns-2
 unfolding unitBy
 returns-2 c = rw (ne-eqb _ _ (c .if1 .left))

@@ -7,23 +7,18 @@ use Rattle.records.proofs.records.word_at.Lts as lts
 use Rattle.records.proofs.records.byte_at.Reads as byte-at-reads
 use Rattle.records.proofs.records.word.Reads as word-reads
 
--- src/records.rt:31:10
 byte-at-requires : tie.Need-byte-at-requires
 byte-at-requires c κs = search needs
 
--- src/records.rt:31:45
 add-byte-at : tie.Need-add-byte-at
 add-byte-at c = search needs
 
--- src/records.rt:31:30
 byte-at-requires-2 : tie.Need-byte-at-requires-2
 byte-at-requires-2 c κs = search needs
 
--- src/records.rt:31:5
 word-requires : tie.Need-word-requires
 word-requires c κs = search needs
 
--- src/records.rt:27:1
 returns : tie.Need-returns
 returns c = word-is _ _ _ _ _ (c .word .ensures .0) (c .before .before .byte-at .ensures) (c .before .byte-at2 .ensures)
 

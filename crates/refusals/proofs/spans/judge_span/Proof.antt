@@ -10,39 +10,31 @@ use Rattle.refusals.specs.Inner.{ofSpan}
 use Rattle.layout.proofs.CallLaws.{open-by}
 use Rattle.refusals.proofs.VerdictLaws.{rights-pass, rights-fail}
 
--- src/spans.rt:17:9
 returns : tie.Need-returns
 unfolding ofSpan
 returns c = ap refusal (sym (refused _ _ _ _ (lt-ltb _ _ (c .if1 .taken))))
 
--- src/spans.rt:20:9
 returns-2 : tie.Need-returns-2
 unfolding ofSpan
 returns-2 c = ap refusal (sym (passed _ _ _ _ (le-ltb _ _ (c .before .if1 .left)) ∙ refused _ _ _ _ (rights-fail _ (c .if2 .taken))))
 
--- src/spans.rt:22:9
 is-span-requires : tie.Need-is-span-requires
 is-span-requires c κs = search needs
 
--- src/spans.rt:23:9
 returns-3 : tie.Need-returns-3
 unfolding ofSpan
 returns-3 c = ap refusal (sym (passed _ _ _ _ (le-ltb _ _ (c .before .before .before .if1 .left)) ∙ passed _ _ _ _ (rights-pass _ (c .before .before .if2 .left)) ∙ refused _ _ _ _ (ap not (sym (c .before .is-span .ensures) ∙ not-true _ (c .if3 .taken)))))
 
--- src/spans.rt:25:26
 open-mask-requires : tie.Need-open-mask-requires
 open-mask-requires c κs = search needs
 
--- src/spans.rt:25:9
 is-open-requires : tie.Need-is-open-requires
 is-open-requires c κs = (c .before .before .before .before .if1 .left)
 
--- src/spans.rt:26:9
 returns-4 : tie.Need-returns-4
 unfolding ofSpan
 returns-4 c = ap refusal (sym (passed _ _ _ _ (le-ltb _ _ (c .before .before .before .before .before .before .if1 .left)) ∙ passed _ _ _ _ (rights-pass _ (c .before .before .before .before .before .if2 .left)) ∙ passed _ _ _ _ (ap not (sym (c .before .before .before .before .is-span .ensures) ∙ not-false _ (c .before .before .before .if3 .left))) ∙ refused _ _ _ _ (ap not (open-by _ _ _ _ (c .before .before .open-mask .ensures) (c .before .is-open .ensures) ∙ not-true _ (c .if4 .taken)))))
 
--- src/spans.rt:12:1
 returns-5 : tie.Need-returns-5
 unfolding ofSpan
 returns-5 c = ap refusal (sym (passed _ _ _ _ (le-ltb _ _ (c .before .before .before .before .before .before .if1 .left)) ∙ passed _ _ _ _ (rights-pass _ (c .before .before .before .before .before .if2 .left)) ∙ passed _ _ _ _ (ap not (sym (c .before .before .before .before .is-span .ensures) ∙ not-false _ (c .before .before .before .if3 .left))) ∙ passed _ _ _ _ (ap not (open-by _ _ _ _ (c .before .before .open-mask .ensures) (c .before .is-open .ensures) ∙ not-false _ (c .if4 .left))) ∙ decided _))

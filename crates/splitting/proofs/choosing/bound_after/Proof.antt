@@ -4,15 +4,12 @@ use Rattle.splitting.proofs.choosing.bound_after.Tie as tie
 use Prim.Native.Nat.{_-_}
 use Rattle.blocks.proofs.SearchedLaws.{bound-same, bound-down}
 
--- src/choosing.rt:101:9
 order-within-requires : tie.Need-order-within-requires
 order-within-requires c κs = search needs
 
--- src/choosing.rt:105:9
 returns : tie.Need-returns
 returns c = bound-down _ _ _ _ (c .before .before .order-within .ensures) (c .before .if1 .taken)
 
--- src/choosing.rt:97:1
 returns-2 : tie.Need-returns-2
 returns-2 c = bound-same _ _ _ _ (c .before .order-within .ensures) (c .if1 .left)
 

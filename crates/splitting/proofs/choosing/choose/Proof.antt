@@ -30,92 +30,71 @@ Inv-search frames pool left known limit within top = Unit
 abbrev μ-search : tie.MeasureT-search
 μ-search frames pool left known limit within top = 0
 
--- src/choosing.rt:76:9
 order-within-requires :
     tie.Need-order-within-requires Inv-loop2 μ-loop2 Inv-loop μ-loop Inv-search μ-search
 order-within-requires c κs = search needs
 
--- src/choosing.rt:77:9
 least-requires : tie.Need-least-requires Inv-loop2 μ-loop2 Inv-loop μ-loop Inv-search μ-search
 least-requires c κs = search needs
 
--- src/choosing.rt:78:9
 search-holds : tie.Need-search-holds Inv-loop2 μ-loop2 Inv-loop μ-loop Inv-search μ-search
 search-holds c = tt
 
--- src/choosing.rt:79:21
 add-t-end : tie.Need-add-t-end Inv-loop2 μ-loop2 Inv-loop μ-loop Inv-search μ-search
 add-t-end c = search needs
 
--- src/choosing.rt:79:9
 loop-holds : tie.Need-loop-holds Inv-loop2 μ-loop2 Inv-loop μ-loop Inv-search μ-search
 loop-holds c = (refl, (omega arith, none-zero _ _ _ _))
 
--- src/choosing.rt:80:17
 order-at-requires :
     tie.Need-order-at-requires Inv-loop2 μ-loop2 Inv-loop μ-loop Inv-search μ-search
 order-at-requires c κs = let w = least-is _ _ _ (c .before .before .before .least .ensures) in (w .1, (c .before .before .before .before .before .before .pre .1 .1 .small, omega arith))
 
--- src/choosing.rt:81:17
 scan-from-requires :
     tie.Need-scan-from-requires Inv-loop2 μ-loop2 Inv-loop μ-loop Inv-search μ-search
 scan-from-requires c κs = search needs
 
--- src/choosing.rt:82:17
 size-of-requires : tie.Need-size-of-requires Inv-loop2 μ-loop2 Inv-loop μ-loop Inv-search μ-search
 size-of-requires c κs = tried-small _ _ _ _ (c .before .before .before .before .before .before .before .before .pre .1 .1 .small) (c .before .order-at .ensures)
 
--- src/choosing.rt:84:17
 start-of-requires :
     tie.Need-start-of-requires Inv-loop2 μ-loop2 Inv-loop μ-loop Inv-search μ-search
 start-of-requires c κs = tried-small _ _ _ _ (c .before .before .before .before .before .before .before .before .before .pre .1 .1 .small) (c .before .before .order-at .ensures)
 
--- src/choosing.rt:85:13
 loop2-holds : tie.Need-loop2-holds Inv-loop2 μ-loop2 Inv-loop μ-loop Inv-search μ-search
 loop2-holds c = scan-start _ _ _ _ _ _ (c .before .before .before .before .before .before .before .before .before .before .pre .1 .1) (c .before .before .scan-from .ensures) (c .start-of .ensures)
 
--- src/choosing.rt:86:27
 cast-if1 : tie.Need-cast-if1 Inv-loop2 μ-loop2 Inv-loop μ-loop Inv-search μ-search
 cast-if1 c = search needs
 
--- src/choosing.rt:86:20
 mul-if1 : tie.Need-mul-if1 Inv-loop2 μ-loop2 Inv-loop μ-loop Inv-search μ-search
 mul-if1 c = let l = lawful-is _ _ (c .before .before .before .before .before .before .before .before .before .before .before .before .pre .0) in omega (arith, l .small)
 
--- src/choosing.rt:86:20
 shared-slice-read-if1 :
     tie.Need-shared-slice-read-if1 Inv-loop2 μ-loop2 Inv-loop μ-loop Inv-search μ-search
 shared-slice-read-if1 c = let l = lawful-is _ _ (c .before .before .before .before .before .before .before .before .before .before .before .before .before .pre .0) in omega (arith, l .small, l .len)
 
--- src/choosing.rt:86:42
 add-if1 : tie.Need-add-if1 Inv-loop2 μ-loop2 Inv-loop μ-loop Inv-search μ-search
 add-if1 c = let w = tried-small _ _ _ _ (c .before .before .before .before .before .before .before .before .before .before .before .before .before .pre .1 .1 .small) (c .before .before .before .before .before .before .order-at .ensures) in omega arith
 
--- src/choosing.rt:87:25
 least-requires-2 : tie.Need-least-requires-2 Inv-loop2 μ-loop2 Inv-loop μ-loop Inv-search μ-search
 least-requires-2 c κs = search needs
 
--- src/choosing.rt:93:17
 add-f : tie.Need-add-f Inv-loop2 μ-loop2 Inv-loop μ-loop Inv-search μ-search
 add-f c = let l = lawful-is _ _ (c .before .before .before .before .before .before .before .before .before .before .before .before .before .before .pre .0) in let w = order-size _ (tried-small _ _ _ _ (c .before .before .before .before .before .before .before .before .before .before .before .before .before .before .pre .1 .1 .small) (c .before .before .before .before .before .before .before .order-at .ensures)) in omega (arith, l .small)
 
--- src/choosing.rt:85:13
 loop2-less : tie.Need-loop2-less Inv-loop2 μ-loop2 Inv-loop μ-loop Inv-search μ-search
 loop2-less c = omega (arith, c .before .before .before .before .before .size-of .ensures, pow-pos (c .before .before .before .before .before .before .before .order-at .result))
 
--- src/choosing.rt:85:13
 loop2-again : tie.Need-loop2-again Inv-loop2 μ-loop2 Inv-loop μ-loop Inv-search μ-search
 loop2-again c = passed _ _ (c .before .before .before .before .before .before .before .before .before .before .before .before .before .before .pre .0) _ _ _ (c .before .before .before .before .before .size-of .ensures) (c .before .before .before .loop2 .inv) (c .before .before .loop2-test .taken) (c .if1 .left)
 
--- src/choosing.rt:79:13
 add-t : tie.Need-add-t Inv-loop2 μ-loop2 Inv-loop μ-loop Inv-search μ-search
 add-t c = search needs
 
--- src/choosing.rt:79:9
 loop-less : tie.Need-loop-less Inv-loop2 μ-loop2 Inv-loop μ-loop Inv-search μ-search
 loop-less c = search needs
 
--- src/choosing.rt:79:9
 loop-again : tie.Need-loop-again Inv-loop2 μ-loop2 Inv-loop μ-loop Inv-search μ-search
 loop-again c = (
   c .before .before .before .before .before .before .before .loop .inv .0,
@@ -125,11 +104,9 @@ loop-again c = (
   ),
 )
 
--- src/choosing.rt:68:1
 returns : tie.Need-returns Inv-loop2 μ-loop2 Inv-loop μ-loop Inv-search μ-search
 returns c = chosen _ _ (c .before .before .before .before .before .before .before .before .before .before .before .before .before .before .before .pre .0) _ _ _ _ _ (c .before .before .before .before .before .before .before .before .before .before .before .before .before .order-within .ensures) (c .before .before .before .before .before .before .before .before .before .before .before .before .least .ensures) (c .before .before .before .before .before .before .before .before .before .before .before .before .before .before .before .pre .1 .1) _ _ _ (omega arith) (c .before .before .before .before .before .before .before .before .order-at .ensures) (c .before .before .before .before .before .before .before .before .before .before .loop .inv .1 .1) (c .before .before .before .before .loop2 .inv .0) (c .before .before .before .loop2-test .taken) (c .before .if1 .taken) (c .least2 .ensures)
 
--- src/choosing.rt:68:1
 returns-2 : tie.Need-returns-2 Inv-loop2 μ-loop2 Inv-loop μ-loop Inv-search μ-search
 returns-2 c = chosen-none _ _ (c .before .before .before .before .before .before .pre .0) _ _ _ _ _ (c .before .before .before .before .order-within .ensures) (c .before .before .before .least .ensures) (c .before .before .before .before .before .before .pre .1 .1) (c .before .loop .inv .1 .1) (omega arith)
 

@@ -3,11 +3,9 @@ use Rattle.splitting.proofs.choosing.least.Tie as tie
 use Prim.Native.Nat.{_-_}
 use Rattle.blocks.proofs.SearchedLaws.{least-first, least-second}
 
--- src/choosing.rt:47:9
 returns : tie.Need-returns
 returns c = least-first _ _ (c .if1 .taken)
 
--- src/choosing.rt:43:1
 returns-2 : tie.Need-returns-2
 returns-2 c = least-second _ _ (c .if1 .left)
 

@@ -14,27 +14,21 @@ Inv-loop left k₀ size₀ k size = (k ≤ 10) × ((size ≤ 1024) × ((size ≡
 abbrev μ-loop : tie.MeasureT-loop
 μ-loop left k₀ size₀ k size = 10 - k
 
--- src/choosing.rt:19:5
 loop-holds : tie.Need-loop-holds Inv-loop μ-loop
 loop-holds c = (omega arith, (omega arith, (refl, omega arith)))
 
--- src/choosing.rt:20:21
 add-twice : tie.Need-add-twice Inv-loop μ-loop
 add-twice c = search needs
 
--- src/choosing.rt:22:13
 returns : tie.Need-returns Inv-loop μ-loop
 returns c = order-up _ _ _ (c .before .before .loop .inv .1 .1 .0) (c .before .before .loop .inv .1 .1 .1) (c .if1 .taken) (omega arith)
 
--- src/choosing.rt:25:9
 add-k : tie.Need-add-k Inv-loop μ-loop
 add-k c = search needs
 
--- src/choosing.rt:19:5
 loop-less : tie.Need-loop-less Inv-loop μ-loop
 loop-less c = search needs
 
--- src/choosing.rt:19:5
 loop-again : tie.Need-loop-again Inv-loop μ-loop
 loop-again c =
     let k : ℕ = c .before .before .loop .k in
@@ -43,7 +37,6 @@ loop-again c =
     let m : 2 ^ (k + 1) ≤ 1024 = order-size (k + 1) (omega arith) in
     (omega arith, (omega arith, (d, omega arith)))
 
--- src/choosing.rt:13:1
 returns-2 : tie.Need-returns-2 Inv-loop μ-loop
 returns-2 c = order-top _ _ _ (c .before .loop .inv .1 .1 .0) (c .before .loop .inv .1 .1 .1) (omega arith) (omega arith)
 

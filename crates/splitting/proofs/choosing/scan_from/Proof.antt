@@ -3,11 +3,9 @@ use Rattle.splitting.proofs.choosing.scan_from.Tie as tie
 use Prim.Native.Nat.{_-_}
 use Rattle.blocks.proofs.SearchedLaws.{scan-same, scan-other}
 
--- src/choosing.rt:58:9
 returns : tie.Need-returns
 returns c = scan-same _ _ (c .before .if1 .taken)
 
--- src/choosing.rt:53:1
 returns-2 : tie.Need-returns-2
 returns-2 c = scan-other _ _ (c .if1 .left)
 

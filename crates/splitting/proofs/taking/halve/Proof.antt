@@ -15,51 +15,39 @@ Inv-loop frames₀ order top at k₀ frames k = (k ≤ top) × ((order ≤ k) ×
 abbrev μ-loop : tie.MeasureT-loop
 μ-loop frames₀ order top at k₀ frames k = top - k
 
--- src/taking.rt:24:5
 loop-holds : tie.Need-loop-holds Inv-loop μ-loop
 loop-holds c = (omega arith, (omega arith, (refl, halves-none _ _ _)))
 
--- src/taking.rt:25:13
 size-of-requires : tie.Need-size-of-requires Inv-loop μ-loop
 size-of-requires c κs = search needs
 
--- src/taking.rt:26:40
 add-frames : tie.Need-add-frames Inv-loop μ-loop
 add-frames c = let p = pow-less (c .before .before .loop .k) (c .before .before .before .before .args .top) (c .before .loop-test .taken) in omega arith
 
--- src/taking.rt:26:17
 add-frames-2 : tie.Need-add-frames-2 Inv-loop μ-loop
 add-frames-2 c = let p = pow-less (c .before .before .loop .k) (c .before .before .before .before .args .top) (c .before .loop-test .taken) in omega arith
 
--- src/taking.rt:26:16
 cast-frames : tie.Need-cast-frames Inv-loop μ-loop
 cast-frames c = let p = pow-less (c .before .before .loop .k) (c .before .before .before .before .args .top) (c .before .loop-test .taken) in omega arith
 
--- src/taking.rt:26:9
 mul-frames : tie.Need-mul-frames Inv-loop μ-loop
 mul-frames c = let p = pow-less (c .before .before .loop .k) (c .before .before .before .before .args .top) (c .before .loop-test .taken) in omega arith
 
--- src/taking.rt:26:9
 slice-write-frames : tie.Need-slice-write-frames Inv-loop μ-loop
 slice-write-frames c = let p = pow-less (c .before .before .loop .k) (c .before .before .before .before .args .top) (c .before .loop-test .taken) in omega arith
 
--- src/taking.rt:27:9
 add-k : tie.Need-add-k Inv-loop μ-loop
 add-k c = search needs
 
--- src/taking.rt:24:5
 loop-less : tie.Need-loop-less Inv-loop μ-loop
 loop-less c = search needs
 
--- src/taking.rt:24:5
 loop-again : tie.Need-loop-again Inv-loop μ-loop
 loop-again c = let p = pow-less (c .before .before .loop .k) (c .before .before .before .before .args .top) (c .before .loop-test .taken) in (omega arith, (omega arith, (simp length-set (omega arith), halves-more _ _ _ _ _ _ (omega arith) (c .size-of .ensures) (omega arith) (c .before .before .loop .inv .1 .1 .1))))
 
--- src/taking.rt:15:1
 same-length : tie.Need-same-length Inv-loop μ-loop
 same-length c = search needs
 
--- src/taking.rt:15:1
 returns : tie.Need-returns Inv-loop μ-loop
 returns c = let e : c .before .loop .k ≡ c .before .before .before .args .top = omega arith in rw (← e) (c .before .loop .inv .1 .1 .1)
 

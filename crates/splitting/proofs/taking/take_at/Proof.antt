@@ -6,47 +6,36 @@ use Prim.Native.Nat.{_-_}
 use native.Mathlib.Omega.{arith}
 use Rattle.blocks.proofs.TakeLaws.{part-facts, take-done, top-of}
 
--- src/taking.rt:41:13
 cast-s : tie.Need-cast-s
 cast-s c = search needs
 
--- src/taking.rt:42:15
 mul-top : tie.Need-mul-top
 mul-top c = search needs
 
--- src/taking.rt:42:15
 slice-read-top : tie.Need-slice-read-top
 slice-read-top c = let x = c .before .before .before .before .pre .1 .0 in let w = part-facts _ _ (c .before .before .before .before .pre .0) _ _ x in omega (arith, w .len, w .small, x .inside)
 
--- src/taking.rt:42:15
 sub-top : tie.Need-sub-top
 sub-top c = let x = c .before .before .before .before .pre .1 .0 in let w = part-facts _ _ (c .before .before .before .before .pre .0) _ _ x in omega (arith, x .first)
 
--- src/taking.rt:43:16
 size-of-requires : tie.Need-size-of-requires
 size-of-requires c κs = let x = c .before .before .before .before .pre .1 .0 in let w = part-facts _ _ (c .before .before .before .before .pre .0) _ _ x in omega (arith, w .top-small, x .below)
 
--- src/taking.rt:43:16
 cast-size : tie.Need-cast-size
 cast-size c = search needs
 
--- src/taking.rt:44:25
 add-count-up : tie.Need-add-count-up
 add-count-up c = let x = c .before .before .before .before .before .before .pre .1 .0 in let w = part-facts _ _ (c .before .before .before .before .before .before .pre .0) _ _ x in omega (arith, w .size, w .small, x .inside)
 
--- src/taking.rt:44:5
 count-up-requires : tie.Need-count-up-requires
 count-up-requires c κs = let x = c .before .before .before .before .before .before .pre .1 .0 in let w = part-facts _ _ (c .before .before .before .before .before .before .pre .0) _ _ x in (omega (arith, w .len, w .small, w .fits, w .less), (omega arith, omega (arith, w .size)))
 
--- src/taking.rt:45:5
 halve-requires : tie.Need-halve-requires
 halve-requires c κs = let x = c .before .before .before .before .before .before .before .before .before .before .pre .1 .0 in let w = part-facts _ _ (c .before .before .before .before .before .before .before .before .before .before .pre .0) _ _ x in (c .before .before .before .count-up .kept .0 ∙ w .len, (omega (arith, x .first, x .below), (omega (arith, x .first, w .top-small), rw (top-of _ _ (x .first)) (omega (arith, w .fits, w .small)))))
 
--- src/taking.rt:32:1
 same-length : tie.Need-same-length
 same-length c = search needs
 
--- src/taking.rt:32:1
 returns : tie.Need-returns
 returns c = let x = c .before .before .before .before .before .before .before .before .before .before .before .before .before .pre .1 .0 in let w = part-facts _ _ (c .before .before .before .before .before .before .before .before .before .before .before .before .before .pre .0) _ _ x in take-done _ _ (c .before .before .before .before .before .before .before .before .before .before .before .before .before .pre .0) _ _ _ _ _ x _ _ (c .before .before .before .before .before .before .before .before .before .before .before .before .before .pre .1 .1 .0) (c .before .before .before .before .before .before .before .before .size-of .ensures) refl (c .before .before .halve .kept .0 ∙ c .before .before .before .before .before .before .count-up .kept .0 ∙ w .len) (c .before .before .before .before .before .before .count-up .ensures) (c .before .before .halve .ensures)
 

@@ -4,25 +4,20 @@ use Rattle.blocks.proofs.AllocateLaws.{chosen-is, chosen-begins, block-taken}
 use Rattle.splitting.proofs.taking.take_block.Statement.{statement}
 use Rattle.splitting.proofs.taking.take_block.Tie as tie
 
--- src/taking.rt:71:9
 choose-requires : tie.Need-choose-requires
 choose-requires c κs = search needs
 
--- src/taking.rt:72:5
 take-at-requires : tie.Need-take-at-requires
 take-at-requires c κs =
     let p = c .before .before .before .before .pre in
     let is = chosen-is _ _ _ _ (p .1 .0) (p .1 .1 .0) (c .before .choose .ensures) in (p .0, (chosen-begins _ _ (p .0) _ _ is, (p .1 .1 .1 .0, omega arith)))
 
--- src/taking.rt:75:16
 bound-after-requires : tie.Need-bound-after-requires
 bound-after-requires c κs = search needs
 
--- src/taking.rt:56:1
 same-length : tie.Need-same-length
 same-length c = search needs
 
--- src/taking.rt:56:1
 returns : tie.Need-returns
 returns c =
     let p = c .before .before .before .before .before .before .before .before .pre in

@@ -19,66 +19,51 @@ Inv-loop frames₀ pool owner out₀ n done₀ blocks₀ known₀ frames out don
 abbrev μ-loop : tie.MeasureT-loop
 μ-loop frames₀ pool owner out₀ n done₀ blocks₀ known₀ frames out done blocks known = n - done
 
--- src/taking.rt:90:9
 nothing-known-requires : tie.Need-nothing-known-requires Inv-loop μ-loop
 nothing-known-requires c κs = search needs
 
--- src/taking.rt:91:5
 loop-holds : tie.Need-loop-holds Inv-loop μ-loop
 loop-holds c = let p = c .before .before .before .pre in (refl, (refl, (going-start _ _ _ _ _ (p .0) (p .1 .0) (p .1 .1 .0) (p .1 .1 .1) (c .nothing-known .ensures), noted-none _ _)))
 
--- src/taking.rt:92:54
 cast-take-block : tie.Need-cast-take-block Inv-loop μ-loop
 cast-take-block c = search needs
 
--- src/taking.rt:92:46
 add-take-block : tie.Need-add-take-block Inv-loop μ-loop
 add-take-block c = search needs
 
--- src/taking.rt:92:68
 sub-take-block : tie.Need-sub-take-block Inv-loop μ-loop
 sub-take-block c = search needs
 
--- src/taking.rt:92:67
 cast-take-block-2 : tie.Need-cast-take-block-2 Inv-loop μ-loop
 cast-take-block-2 c = search needs
 
--- src/taking.rt:92:13
 take-block-requires : tie.Need-take-block-requires Inv-loop μ-loop
 take-block-requires c κs = let s = c .before .before .loop .inv .1 .1 .0 in (s .lawful, (omega arith, (s .enough, (omega arith, (omega (arith, s .at-most), s .searched)))))
 
--- src/taking.rt:95:20
 size-of-requires : tie.Need-size-of-requires Inv-loop μ-loop
 size-of-requires c κs = next-placed _ _ _ _ _ _ _ _ (c .before .before .before .before .before .before .before .loop .inv .1 .1 .0) (c .before .before .before .before .before .before .loop-test .taken) _ _ (c .before .before .before .before .take-block .ensures) .small
 
--- src/taking.rt:95:20
 cast-size : tie.Need-cast-size Inv-loop μ-loop
 cast-size c = search needs
 
--- src/taking.rt:96:29
 add-count-up : tie.Need-add-count-up Inv-loop μ-loop
 add-count-up c = let x = next-placed _ _ _ _ _ _ _ _ (c .before .before .before .before .before .before .before .before .before .loop .inv .1 .1 .0) (c .before .before .before .before .before .before .before .before .loop-test .taken) _ _ (c .before .before .before .before .before .before .take-block .ensures) in omega (arith, x .fits, c .before .size-of .ensures)
 
--- src/taking.rt:96:9
 count-up-requires : tie.Need-count-up-requires Inv-loop μ-loop
 count-up-requires c κs =
     let x = next-placed _ _ _ _ _ _ _ _ (c .before .before .before .before .before .before .before .before .before .loop .inv .1 .1 .0) (c .before .before .before .before .before .before .before .before .loop-test .taken) _ _ (c .before .before .before .before .before .before .take-block .ensures) in
     let l = lawful-is _ _ (c .before .before .before .before .before .before .before .before .before .loop .inv .1 .1 .0 .lawful) in
     let z = c .before .size-of .ensures in (omega (arith, x .fits, c .before .before .before .before .before .before .before .before .before .loop .inv .1 .0), (omega arith, omega (arith, x .inside, l .small)))
 
--- src/taking.rt:98:9
 add-done : tie.Need-add-done Inv-loop μ-loop
 add-done c = let x = next-placed _ _ _ _ _ _ _ _ (c .before .before .before .before .before .before .before .before .before .before .before .before .before .loop .inv .1 .1 .0) (c .before .before .before .before .before .before .before .before .before .before .before .before .loop-test .taken) _ _ (c .before .before .before .before .before .before .before .before .before .before .take-block .ensures) in omega (arith, x .fits, c .before .before .before .before .before .size-of .ensures)
 
--- src/taking.rt:99:9
 add-blocks : tie.Need-add-blocks Inv-loop μ-loop
 add-blocks c = omega (arith, c .before .before .before .before .before .before .before .before .before .before .before .before .before .loop .inv .1 .1 .0 .few)
 
--- src/taking.rt:91:5
 loop-less : tie.Need-loop-less Inv-loop μ-loop
 loop-less c = let x = next-placed _ _ _ _ _ _ _ _ (c .before .before .before .before .before .before .before .before .before .before .before .before .before .loop .inv .1 .1 .0) (c .before .before .before .before .before .before .before .before .before .before .before .before .loop-test .taken) _ _ (c .before .before .before .before .before .before .before .before .before .before .take-block .ensures) in omega (arith, x .fits, c .before .before .before .before .before .size-of .ensures, pow-pos (c .before .before .before .before .before .before .before .before .before .before .take-block .result .block .order))
 
--- src/taking.rt:91:5
 loop-again : tie.Need-loop-again Inv-loop μ-loop
 loop-again c =
     let z = c .before .before .before .before .before .size-of .ensures in (
@@ -86,15 +71,12 @@ loop-again c =
       (c .before .before .before .count-up .kept .0 ∙ c .before .before .before .before .before .before .before .before .before .before .before .before .before .loop .inv .1 .0, (going-on _ _ _ _ _ _ _ _ (c .before .before .before .before .before .before .before .before .before .before .before .before .before .loop .inv .1 .1 .0) (c .before .before .before .before .before .before .before .before .before .before .before .before .loop-test .taken) _ _ (c .before .before .before .before .before .before .before .before .before .before .take-block .ensures) _ z, noted-more _ _ _ _ _ _ _ z (next-placed _ _ _ _ _ _ _ _ (c .before .before .before .before .before .before .before .before .before .before .before .before .before .loop .inv .1 .1 .0) (c .before .before .before .before .before .before .before .before .before .before .before .before .loop-test .taken) _ _ (c .before .before .before .before .before .before .before .before .before .before .take-block .ensures) .frames) (c .before .before .before .count-up .ensures) (c .before .before .before .before .before .before .before .before .before .before .before .before .before .loop .inv .1 .1 .1))),
     )
 
--- src/taking.rt:80:1
 same-length : tie.Need-same-length Inv-loop μ-loop
 same-length c = lawful-is _ _ (c .before .loop .inv .1 .1 .0 .lawful) .len ∙ sym (lawful-is _ _ (c .before .before .before .before .before .pre .0) .len)
 
--- src/taking.rt:80:1
 same-length-2 : tie.Need-same-length-2 Inv-loop μ-loop
 same-length-2 c = c .before .loop .inv .1 .0
 
--- src/taking.rt:80:1
 returns : tie.Need-returns Inv-loop μ-loop
 returns c =
     let s = c .before .loop .inv .1 .1 .0 in

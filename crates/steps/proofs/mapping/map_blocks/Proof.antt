@@ -18,67 +18,52 @@ Inv-loop frames₀ part₀ pool owner n rights page done₀ blocks₀ known₀ f
 abbrev μ-loop : tie.MeasureT-loop
 μ-loop frames₀ part₀ pool owner n rights page done₀ blocks₀ known₀ frames part done blocks known = n - done
 
--- src/mapping.rt:68:9
 nothing-known-requires : tie.Need-nothing-known-requires Inv-loop μ-loop
 nothing-known-requires c κs = search needs
 
--- src/mapping.rt:69:5
 loop-holds : tie.Need-loop-holds Inv-loop μ-loop
 loop-holds c = let p = c .before .before .before .pre in (going-start _ _ _ _ _ (p .0) (p .1 .1 .0) (p .1 .1 .1 .0) (p .1 .1 .1 .1 .0) (c .nothing-known .ensures), blocks-none _ _ _ _)
 
--- src/mapping.rt:70:46
 add-take-block : tie.Need-add-take-block Inv-loop μ-loop
 add-take-block c = search needs
 
--- src/mapping.rt:70:60
 sub-take-block : tie.Need-sub-take-block Inv-loop μ-loop
 sub-take-block c = search needs
 
--- src/mapping.rt:70:13
 take-block-requires : tie.Need-take-block-requires Inv-loop μ-loop
 take-block-requires c κs = let s = c .before .before .loop .inv .0 in (s .lawful, (omega arith, (s .enough, (omega arith, (omega (arith, s .at-most), s .searched)))))
 
--- src/mapping.rt:72:13
 size-of-requires : tie.Need-size-of-requires Inv-loop μ-loop
 size-of-requires c κs = next-placed _ _ _ _ _ _ _ _ (c .before .before .before .before .before .before .loop .inv .0) (c .before .before .before .before .before .loop-test .taken) _ _ (c .before .before .before .take-block .ensures) .small
 
--- src/mapping.rt:73:32
 add-t18 : tie.Need-add-t18 Inv-loop μ-loop
 add-t18 c = search needs
 
--- src/mapping.rt:73:9
 write-block-requires : tie.Need-write-block-requires Inv-loop μ-loop
 write-block-requires c κs =
     let p = c .before .before .before .before .before .before .before .before .before .before .before .before .pre in
     let x = next-placed _ _ _ _ _ _ _ _ (c .before .before .before .before .before .before .before .before .loop .inv .0) (c .before .before .before .before .before .before .before .loop-test .taken) _ _ (c .before .before .before .before .before .take-block .ensures) in
     let l = lawful-facts _ _ (c .before .before .before .before .before .before .before .before .loop .inv .0 .lawful) in (blocks-long _ _ _ _ _ _ (c .before .before .before .before .before .before .before .before .loop .inv .1) ∙ p .1 .0, (x .small, (omega (arith, x .inside, l .small), (omega (arith, x .fits, p .1 .1 .1 .1 .1 .0), p .1 .1 .1 .1 .1 .1))))
 
--- src/mapping.rt:75:9
 add-done : tie.Need-add-done Inv-loop μ-loop
 add-done c = let x = next-placed _ _ _ _ _ _ _ _ (c .before .before .before .before .before .before .before .before .before .before .before .before .loop .inv .0) (c .before .before .before .before .before .before .before .before .before .before .before .loop-test .taken) _ _ (c .before .before .before .before .before .before .before .before .before .take-block .ensures) in omega (arith, x .fits, c .before .before .before .before .before .size-of .ensures)
 
--- src/mapping.rt:76:9
 add-blocks : tie.Need-add-blocks Inv-loop μ-loop
 add-blocks c = omega (arith, c .before .before .before .before .before .before .before .before .before .before .before .before .loop .inv .0 .few)
 
--- src/mapping.rt:69:5
 loop-less : tie.Need-loop-less Inv-loop μ-loop
 loop-less c = let x = next-placed _ _ _ _ _ _ _ _ (c .before .before .before .before .before .before .before .before .before .before .before .before .loop .inv .0) (c .before .before .before .before .before .before .before .before .before .before .before .loop-test .taken) _ _ (c .before .before .before .before .before .before .before .before .before .take-block .ensures) in omega (arith, x .fits, c .before .before .before .before .before .size-of .ensures, pow-pos (c .before .before .before .before .before .before .before .before .before .take-block .result .block .order))
 
--- src/mapping.rt:69:5
 loop-again : tie.Need-loop-again Inv-loop μ-loop
 loop-again c =
     let z = c .before .before .before .before .before .size-of .ensures in (going-on _ _ _ _ _ _ _ _ (c .before .before .before .before .before .before .before .before .before .before .before .before .loop .inv .0) (c .before .before .before .before .before .before .before .before .before .before .before .loop-test .taken) _ _ (c .before .before .before .before .before .before .before .before .before .take-block .ensures) _ z, block-more _ _ _ _ _ _ _ _ _ _ _ (next-placed _ _ _ _ _ _ _ _ (c .before .before .before .before .before .before .before .before .before .before .before .before .loop .inv .0) (c .before .before .before .before .before .before .before .before .before .before .before .loop-test .taken) _ _ (c .before .before .before .before .before .before .before .before .before .take-block .ensures)) (c .before .before .before .before .before .before .before .before .before .before .before .before .loop .inv .1) z (c .before .before .before .write-block .ensures))
 
--- src/mapping.rt:45:1
 same-length : tie.Need-same-length Inv-loop μ-loop
 same-length c = lawful-facts _ _ (c .before .loop .inv .0 .lawful) .len ∙ sym (lawful-facts _ _ (c .before .before .before .before .before .pre .0) .len)
 
--- src/mapping.rt:45:1
 same-length-2 : tie.Need-same-length-2 Inv-loop μ-loop
 same-length-2 c = blocks-long _ _ _ _ _ _ (c .before .loop .inv .1)
 
--- src/mapping.rt:45:1
 returns : tie.Need-returns Inv-loop μ-loop
 returns c =
     let s = c .before .loop .inv .0 in

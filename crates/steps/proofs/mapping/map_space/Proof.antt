@@ -4,27 +4,21 @@ use Rattle.runs.specs.Walk.{withBits, rangeWords}
 use Rattle.steps.proofs.mapping.map_space.Statement.{statement}
 use Rattle.steps.proofs.mapping.map_space.Tie as tie
 
--- src/mapping.rt:101:9
 map-blocks-requires : tie.Need-map-blocks-requires
 map-blocks-requires c κs = let p = c .before .before .before .before .before .pre in (p .0, (p .1 .0, p .1 .1 .1))
 
--- src/mapping.rt:102:5
 renew-requires : tie.Need-renew-requires
 renew-requires c κs = search needs
 
--- src/mapping.rt:81:1
 same-length : tie.Need-same-length
 same-length c = search needs
 
--- src/mapping.rt:81:1
 same-length-2 : tie.Need-same-length-2
 same-length-2 c = search needs
 
--- src/mapping.rt:81:1
 same-length-3 : tie.Need-same-length-3
 same-length-3 c = search needs
 
--- src/mapping.rt:81:1
 returns : tie.Need-returns
 returns c =
     let w = c .before .before .before .before .before .before .before .before .before .before .before .map-blocks .ensures in

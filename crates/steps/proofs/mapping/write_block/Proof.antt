@@ -13,55 +13,42 @@ Inv-loop part₀ rights page frame size k₀ part k = (k ≤ size) × Changed (m
 abbrev μ-loop : tie.MeasureT-loop
 μ-loop part₀ rights page frame size k₀ part k = size - k
 
--- src/mapping.rt:34:9
 size-of-requires : tie.Need-size-of-requires Inv-loop μ-loop
 size-of-requires c κs = search needs
 
--- src/mapping.rt:36:5
 loop-holds : tie.Need-loop-holds Inv-loop μ-loop
 loop-holds c = (zero-le, change-none _ _ _)
 
--- src/mapping.rt:37:19
 add-at : tie.Need-add-at Inv-loop μ-loop
 add-at c = search needs
 
--- src/mapping.rt:37:18
 cast-at : tie.Need-cast-at Inv-loop μ-loop
 cast-at c = search needs
 
--- src/mapping.rt:38:17
 add-f : tie.Need-add-f Inv-loop μ-loop
 add-f c = search needs
 
--- src/mapping.rt:39:20
 page-word-requires : tie.Need-page-word-requires Inv-loop μ-loop
 page-word-requires c κs = search needs
 
--- src/mapping.rt:39:9
 mul-part : tie.Need-mul-part Inv-loop μ-loop
 mul-part c = let z = c .before .before .loop .inv .1 .size in search needs
 
--- src/mapping.rt:39:9
 slice-write-part : tie.Need-slice-write-part Inv-loop μ-loop
 slice-write-part c = let z = c .before .before .loop .inv .1 .size in search needs
 
--- src/mapping.rt:40:9
 add-k : tie.Need-add-k Inv-loop μ-loop
 add-k c = search needs
 
--- src/mapping.rt:36:5
 loop-less : tie.Need-loop-less Inv-loop μ-loop
 loop-less c = search needs
 
--- src/mapping.rt:36:5
 loop-again : tie.Need-loop-again Inv-loop μ-loop
 loop-again c = (omega arith, change-more _ _ _ _ _ _ (omega arith) (c .before .before .loop .inv .1) (next-mapped _ _ _ _ _ _ (c .page-word .ensures)))
 
--- src/mapping.rt:23:1
 same-length : tie.Need-same-length Inv-loop μ-loop
 same-length c = c .before .loop .inv .1 .size
 
--- src/mapping.rt:23:1
 returns : tie.Need-returns Inv-loop μ-loop
 returns c =
     let e : c .before .loop .k ≡ 2 ^ (c .before .before .before .before .before .args .b .order) = omega (arith, c .before .before .size-of .ensures) in

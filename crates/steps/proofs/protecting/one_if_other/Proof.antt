@@ -6,16 +6,13 @@ use Prim.Native.Nat.{_-_}
 use borrow.Author.Tests.{eq-eqb, ne-eqb}
 use Rattle.words.specs.Counts.{one-if}
 
--- src/protecting.rt:94:8
 rights-in-requires : tie.Need-rights-in-requires
 rights-in-requires c κs = search needs
 
--- src/protecting.rt:95:9
 returns : tie.Need-returns
 unfolding one-if
 returns c = rw (eq-eqb _ _ (sym (c .before .rights-in .ensures) ∙ c .if1 .taken)) refl
 
--- src/protecting.rt:91:1
 returns-2 : tie.Need-returns-2
 unfolding one-if
 returns-2 c = rw (ne-eqb _ _ (λ e. c .if1 .left (c .before .rights-in .ensures ∙ e))) refl

@@ -4,23 +4,18 @@ use Rattle.steps.proofs.protecting.protect_space.Tie as tie
 use mathlib.Core.Path.{ap, _∙_}
 use Rattle.runs.specs.Walk.{withBits, rangeWords}
 
--- src/protecting.rt:143:9
 rewrite-requires : tie.Need-rewrite-requires
 rewrite-requires c κs = search needs
 
--- src/protecting.rt:144:5
 renew-requires : tie.Need-renew-requires
 renew-requires c κs = search needs
 
--- src/protecting.rt:130:1
 same-length : tie.Need-same-length
 same-length c = search needs
 
--- src/protecting.rt:130:1
 same-length-2 : tie.Need-same-length-2
 same-length-2 c = search needs
 
--- src/protecting.rt:130:1
 returns : tie.Need-returns
 returns c =
     record { value = c .before .before .before .before .before .before .before .before .before .rewrite .ensures .0; pages = c .before .before .before .before .renew .ensures .0 ∙ ap withBits (c .before .before .before .before .before .before .before .before .before .rewrite .ensures .1); ranges = c .before .before .before .before .renew .ensures .1 ∙ ap rangeWords (c .before .before .before .before .before .before .before .before .before .rewrite .ensures .1) }

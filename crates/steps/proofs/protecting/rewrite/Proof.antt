@@ -13,66 +13,51 @@ Inv-loop part₀ count rights start n₀ k₀ part n k = (k ≤ count) × ((n �
 abbrev μ-loop : tie.MeasureT-loop
 μ-loop part₀ count rights start n₀ k₀ part n k = count - k
 
--- src/protecting.rt:119:5
 loop-holds : tie.Need-loop-holds Inv-loop μ-loop
 loop-holds c = (zero-le, (differing-none _ _ _, change-none _ _ _))
 
--- src/protecting.rt:120:19
 add-at : tie.Need-add-at Inv-loop μ-loop
 add-at c = search needs
 
--- src/protecting.rt:120:18
 cast-at : tie.Need-cast-at Inv-loop μ-loop
 cast-at c = search needs
 
--- src/protecting.rt:121:17
 mul-w : tie.Need-mul-w Inv-loop μ-loop
 mul-w c = let z = c .before .loop .inv .1 .1 .size in search needs
 
--- src/protecting.rt:121:17
 slice-read-w : tie.Need-slice-read-w Inv-loop μ-loop
 slice-read-w c = let z = c .before .before .loop .inv .1 .1 .size in search needs
 
--- src/protecting.rt:122:14
 one-if-other-requires : tie.Need-one-if-other-requires Inv-loop μ-loop
 one-if-other-requires c κs = search needs
 
--- src/protecting.rt:122:9
 add-n : tie.Need-add-n Inv-loop μ-loop
 add-n c = record { fits = omega (arith, at-most-one _ _ (c .one-if-other .ensures), differing-le (c .before .before .before .before .before .args .part .now) (c .before .before .before .before .before .args .first .0) (c .before .before .before .before .before .args .rights) (c .before .before .before .loop .k)) }
 
--- src/protecting.rt:123:20
 with-rights-requires : tie.Need-with-rights-requires Inv-loop μ-loop
 with-rights-requires c κs = search needs
 
--- src/protecting.rt:123:9
 mul-part : tie.Need-mul-part Inv-loop μ-loop
 mul-part c = let z = c .before .before .before .before .loop .inv .1 .1 .size in search needs
 
--- src/protecting.rt:123:9
 slice-write-part : tie.Need-slice-write-part Inv-loop μ-loop
 slice-write-part c = let z = c .before .before .before .before .loop .inv .1 .1 .size in search needs
 
--- src/protecting.rt:124:9
 add-k : tie.Need-add-k Inv-loop μ-loop
 add-k c = search needs
 
--- src/protecting.rt:119:5
 loop-less : tie.Need-loop-less Inv-loop μ-loop
 loop-less c = search needs
 
--- src/protecting.rt:119:5
 loop-again : tie.Need-loop-again Inv-loop μ-loop
 loop-again c =
     let s = c .before .before .before .before .loop .inv .1 .1 in
     let same = change-next _ _ _ _ _ s in
     (omega arith, (differing-more _ _ _ _ _ _ _ (c .before .before .before .before .loop .inv .1 .0) same (c .before .one-if-other .ensures), change-more _ _ _ _ _ _ (omega arith) s (next-rewritten _ _ _ _ _ same (c .with-rights .ensures))))
 
--- src/protecting.rt:109:1
 same-length : tie.Need-same-length Inv-loop μ-loop
 same-length c = c .before .loop .inv .1 .1 .size
 
--- src/protecting.rt:109:1
 returns : tie.Need-returns Inv-loop μ-loop
 returns c =
     let e : c .before .loop .k ≡ c .before .before .before .args .count = omega arith in

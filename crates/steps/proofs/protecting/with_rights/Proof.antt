@@ -8,15 +8,12 @@ use native.Mathlib.Omega.{arith}
 use Rattle.runs.specs.PageWords.{pageWord}
 use Rattle.runs.proofs.WordLaws.{frame-lt}
 
--- src/protecting.rt:105:30
 frame-in-requires : tie.Need-frame-in-requires
 frame-in-requires c κs = search needs
 
--- src/protecting.rt:105:5
 page-word-requires : tie.Need-page-word-requires
 page-word-requires c κs = (omega arith, omega (arith, c .frame-in .ensures, frame-lt (c .before .args .w)))
 
--- src/protecting.rt:101:1
 returns : tie.Need-returns
 returns c = c .page-word .ensures ∙ ap (λ (f : ℕ). pageWord false (c .before .before .args .rights) f) (c .before .frame-in .ensures)
 

@@ -13,61 +13,47 @@ Inv-loop part₀ count start n₀ k₀ part n k = (k ≤ count) × ((n ≡ mappe
 abbrev μ-loop : tie.MeasureT-loop
 μ-loop part₀ count start n₀ k₀ part n k = count - k
 
--- src/unmapping.rt:69:5
 loop-holds : tie.Need-loop-holds Inv-loop μ-loop
 loop-holds c = (zero-le, (mapped-none _ _, change-none _ _ _))
 
--- src/unmapping.rt:70:19
 add-at : tie.Need-add-at Inv-loop μ-loop
 add-at c = search needs
 
--- src/unmapping.rt:70:18
 cast-at : tie.Need-cast-at Inv-loop μ-loop
 cast-at c = search needs
 
--- src/unmapping.rt:71:28
 mul-one-if-mapped : tie.Need-mul-one-if-mapped Inv-loop μ-loop
 mul-one-if-mapped c = let z = c .before .loop .inv .1 .1 .size in search needs
 
--- src/unmapping.rt:71:28
 slice-read-one-if-mapped : tie.Need-slice-read-one-if-mapped Inv-loop μ-loop
 slice-read-one-if-mapped c = let z = c .before .before .loop .inv .1 .1 .size in search needs
 
--- src/unmapping.rt:71:14
 one-if-mapped-requires : tie.Need-one-if-mapped-requires Inv-loop μ-loop
 one-if-mapped-requires c κs = search needs
 
--- src/unmapping.rt:71:9
 add-n : tie.Need-add-n Inv-loop μ-loop
 add-n c = record { fits = omega (arith, at-most-one _ _ (c .one-if-mapped .ensures), mapped-le (c .before .before .before .before .before .args .part .now) (c .before .before .before .before .before .args .first .0) (c .before .before .before .loop .k)) }
 
--- src/unmapping.rt:72:9
 mul-part : tie.Need-mul-part Inv-loop μ-loop
 mul-part c = let z = c .before .before .before .loop .inv .1 .1 .size in search needs
 
--- src/unmapping.rt:72:9
 slice-write-part : tie.Need-slice-write-part Inv-loop μ-loop
 slice-write-part c = let z = c .before .before .before .loop .inv .1 .1 .size in search needs
 
--- src/unmapping.rt:73:9
 add-k : tie.Need-add-k Inv-loop μ-loop
 add-k c = search needs
 
--- src/unmapping.rt:69:5
 loop-less : tie.Need-loop-less Inv-loop μ-loop
 loop-less c = search needs
 
--- src/unmapping.rt:69:5
 loop-again : tie.Need-loop-again Inv-loop μ-loop
 loop-again c =
     let s = c .before .before .before .loop .inv .1 .1 in
     (omega arith, (mapped-more _ _ _ _ _ _ (c .before .before .before .loop .inv .1 .0) (change-next _ _ _ _ _ s) (c .one-if-mapped .ensures), change-more _ _ _ _ _ _ (omega arith) s (next-unmapped _ _)))
 
--- src/unmapping.rt:60:1
 same-length : tie.Need-same-length Inv-loop μ-loop
 same-length c = c .before .loop .inv .1 .1 .size
 
--- src/unmapping.rt:60:1
 returns : tie.Need-returns Inv-loop μ-loop
 returns c =
     let e : c .before .loop .k ≡ c .before .before .before .args .count = omega arith in

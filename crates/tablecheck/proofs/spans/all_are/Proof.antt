@@ -16,47 +16,36 @@ Inv-loop part first count v end p₀ p = (end ≡ first + count) × ((p ≤ end)
 abbrev μ-loop : tie.MeasureT-loop
 μ-loop part first count v end p₀ p = end - p
 
--- src/spans.rt:31:15
 add-end : tie.Need-add-end Inv-loop μ-loop
 add-end c = search needs
 
--- src/spans.rt:33:5
 loop-holds : tie.Need-loop-holds Inv-loop μ-loop
 loop-holds c = (refl, (omega arith, all-start _ _ _ _ refl))
 
--- src/spans.rt:34:24
 cast-mapped : tie.Need-cast-mapped Inv-loop μ-loop
 cast-mapped c = search needs
 
--- src/spans.rt:34:19
 mul-mapped : tie.Need-mul-mapped Inv-loop μ-loop
 mul-mapped c = search needs
 
--- src/spans.rt:34:19
 shared-slice-read-mapped : tie.Need-shared-slice-read-mapped Inv-loop μ-loop
 shared-slice-read-mapped c = search needs
 
--- src/spans.rt:34:12
 mapped-requires : tie.Need-mapped-requires Inv-loop μ-loop
 mapped-requires c κs = search needs
 
--- src/spans.rt:35:13
 returns : tie.Need-returns Inv-loop μ-loop
 returns c = all-stop _ _ _ (c .before .before .before .loop-test .taken) (page-is _ _ _ _ (c .before .mapped .ensures) ∙ not-true _ (c .if1 .taken)) ∙ sym (c .before .before .before .before .loop .inv .1 .1)
 
--- src/spans.rt:37:9
 add-p : tie.Need-add-p Inv-loop μ-loop
 add-p c = search needs
 
--- src/spans.rt:33:5
 loop-less : tie.Need-loop-less Inv-loop μ-loop
 loop-less c = search needs
 
--- src/spans.rt:33:5
 loop-again : tie.Need-loop-again Inv-loop μ-loop
 loop-again c = (c .before .before .before .before .loop .inv .0, (omega arith, c .before .before .before .before .loop .inv .1 .1 ∙ all-step _ _ _ (c .before .before .before .loop-test .taken) (page-is _ _ _ _ (c .before .mapped .ensures) ∙ not-false _ (c .if1 .left))))
 
--- src/spans.rt:26:1
 returns-2 : tie.Need-returns-2 Inv-loop μ-loop
 returns-2 c = all-end _ _ _ (c .loop-test .left) ∙ sym (c .before .loop .inv .1 .1)
 

@@ -4,11 +4,9 @@ use Rattle.tablecheck.proofs.spans.all_mapped.Tie as tie
 use mathlib.Core.Path.{_∙_}
 use Rattle.tablecheck.proofs.SpanLaws.{all-are}
 
--- src/spans.rt:57:5
 all-are-requires : tie.Need-all-are-requires
 all-are-requires c κs = search needs
 
--- src/spans.rt:52:1
 returns : tie.Need-returns
 returns c = c .all-are .ensures ∙ all-are _ _ _
 

@@ -5,11 +5,9 @@ use mathlib.Core.Path.{ap, _∙_}
 use mathlib.Core.Bool.{not}
 use Rattle.tablecheck.proofs.SpanLaws.{any-is}
 
--- src/spans.rt:48:6
 all-are-requires : tie.Need-all-are-requires
 all-are-requires c κs = search needs
 
--- src/spans.rt:43:1
 returns : tie.Need-returns
 returns c = ap not (c .all-are .ensures) ∙ any-is _ _ _
 

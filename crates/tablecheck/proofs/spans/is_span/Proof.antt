@@ -3,15 +3,12 @@ use Rattle.tablecheck.proofs.spans.is_span.Tie as tie
 use native.Mathlib.Omega.{arith}
 use Rattle.tablecheck.proofs.SpanLaws.{no-span, span-last}
 
--- src/spans.rt:18:9
 returns : tie.Need-returns
 returns c = no-span _ _ (λ x y. omega arith)
 
--- src/spans.rt:21:9
 returns-2 : tie.Need-returns-2
 returns-2 c = no-span _ _ (λ x y. omega arith)
 
--- src/spans.rt:14:1
 returns-3 : tie.Need-returns-3
 returns-3 c = span-last _ _ (omega arith) (omega arith)
 

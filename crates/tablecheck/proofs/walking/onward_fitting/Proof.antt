@@ -13,69 +13,53 @@ use Rattle.ranges.proofs.walk.least.Reads as least-reads
 use Rattle.ranges.proofs.page_words.frame_in.Reads as frame-in-reads
 use Rattle.words.proofs.scans.counts_beside.Reads as counts-beside-reads
 
--- src/walking.rt:81:9
 frame-in-requires : tie.Need-frame-in-requires
 frame-in-requires c κs = search needs
 
--- src/walking.rt:83:9
 returns : tie.Need-returns
 returns c = (record { room = omega arith; frames = omega (arith, frame-lt (c .before .before .before .before .before .args .w)); next = λ j lt. absurd (omega arith) }, named-none _ _ _ _ _ refl)
 
--- src/walking.rt:85:22
 sub-least : tie.Need-sub-least
 sub-least c = search needs
 
--- src/walking.rt:85:34
 sub-least-2 : tie.Need-sub-least-2
 sub-least-2 c = search needs
 
--- src/walking.rt:85:34
 sub-least-3 : tie.Need-sub-least-3
 sub-least-3 c = search needs
 
--- src/walking.rt:85:9
 least-requires : tie.Need-least-requires
 least-requires c κs = search needs
 
--- src/walking.rt:86:16
 cast-from : tie.Need-cast-from
 cast-from c = search needs
 
--- src/walking.rt:87:15
 add-at : tie.Need-add-at
 add-at c = search needs
 
--- src/walking.rt:87:14
 cast-at : tie.Need-cast-at
 cast-at c = search needs
 
--- src/walking.rt:88:17
 add-place : tie.Need-add-place
 add-place c = search needs
 
--- src/walking.rt:89:31
 add-counts-beside : tie.Need-add-counts-beside
 add-counts-beside c = omega (arith, mapped-lt _ (c .before .before .before .before .before .before .before .before .before .before .before .pre .1 .1 .1 .1 .1))
 
--- src/walking.rt:89:50
 add-counts-beside-2 : tie.Need-add-counts-beside-2
 add-counts-beside-2 c = search needs
 
--- src/walking.rt:89:61
 cast-counts-beside : tie.Need-cast-counts-beside
 cast-counts-beside c = search needs
 
--- src/walking.rt:89:5
 counts-beside-requires : tie.Need-counts-beside-requires
 counts-beside-requires c κs = let low = mapped-lt _ (c .before .before .before .before .before .before .before .before .before .before .before .pre .1 .1 .1 .1 .1) in
     let few = c .before .before .before .least .ensures in
     ((omega arith, omega arith), (omega arith, omega arith))
 
--- src/walking.rt:89:5
 cast-result : tie.Need-cast-result
 cast-result c = search needs
 
--- src/walking.rt:71:1
 returns-2 : tie.Need-returns-2
 returns-2 c = let few = c .before .before .before .before .least .ensures in
     let top : c .before .before .before .before .before .before .before .before .before .frame-in .result .0 + c .before .before .before .before .least .result < c .before .before .before .before .before .before .before .before .before .before .before .before .args .pool = omega arith in

@@ -14,27 +14,21 @@ use Rattle.tablecheck.proofs.walking.onward_fitting.Reads as onward-fit
 use Rattle.ranges.proofs.page_words.mapped.Reads as mapped-reads
 use Rattle.ranges.proofs.walk.over.Reads as over-reads
 
--- src/walking.rt:103:9
 mapped-requires : tie.Need-mapped-requires
 mapped-requires c κs = search needs
 
--- src/walking.rt:104:9
 over-requires : tie.Need-over-requires
 over-requires c κs = search needs
 
--- src/walking.rt:104:9
 returns : tie.Need-returns
 returns c = (c .over .ensures .0, (c .over .ensures .1, named-none _ _ _ _ _ (along-none _ _ _ _ _ (c .over .ensures .0) (sym (c .before .before .mapped .ensures) ∙ not-true _ (c .before .if1 .taken)))))
 
--- src/walking.rt:106:9
 onward-fitting-requires : tie.Need-onward-fitting-requires
 onward-fitting-requires c κs = (omega arith, (omega arith, (omega arith, (omega arith, (omega arith, sym (c .before .mapped .ensures) ∙ not-false _ (c .if1 .left))))))
 
--- src/walking.rt:110:15
 add-t10 : tie.Need-add-t10
 add-t10 c = omega (arith, mapped-lt _ (sym (c .before .before .mapped .ensures) ∙ not-false _ (c .before .if1 .left)), c .onward-fitting .ensures .0 .room)
 
--- src/walking.rt:93:1
 returns-2 : tie.Need-returns-2
 returns-2 c = (onward (sym (c .before .before .mapped .ensures) ∙ not-false _ (c .before .if1 .left)) (c .onward-fitting .ensures .0), (refl, c .onward-fitting .ensures .1))
 

@@ -8,39 +8,30 @@ use borrow.Author.Tests.{not-true, not-false}
 use Rattle.runs.proofs.WordLaws.{frame-lt}
 use Rattle.layout.proofs.PointingLaws.{page-unmapped, page-over, page-names}
 
--- src/walking.rt:48:9
 mapped-requires : tie.Need-mapped-requires
 mapped-requires c κs = search needs
 
--- src/walking.rt:49:9
 returns : tie.Need-returns
 returns c = page-unmapped _ _ _ _ (sym (c .before .mapped .ensures) ∙ not-true _ (c .if1 .taken))
 
--- src/walking.rt:51:9
 frame-in-requires : tie.Need-frame-in-requires
 frame-in-requires c κs = search needs
 
--- src/walking.rt:53:9
 returns-2 : tie.Need-returns-2
 returns-2 c = page-over _ _ _ _ (sym (c .before .before .before .before .mapped .ensures) ∙ not-false _ (c .before .before .before .if1 .left)) (omega (arith, (c .before .before .frame-in .ensures)))
 
--- src/walking.rt:55:14
 cast-at : tie.Need-cast-at
 cast-at c = search needs
 
--- src/walking.rt:56:5
 mul-result : tie.Need-mul-result
 mul-result c = search needs
 
--- src/walking.rt:56:5
 shared-slice-read-result : tie.Need-shared-slice-read-result
 shared-slice-read-result c = let low = frame-lt (c .before .before .before .before .before .before .before .before .args .w) in let is = (c .before .before .before .before .frame-in .ensures) in search needs
 
--- src/walking.rt:56:19
 add-result : tie.Need-add-result
 add-result c = search needs
 
--- src/walking.rt:43:1
 returns-3 : tie.Need-returns-3
 returns-3 c = rw (c .before .before .before .before .frame-in .ensures) (page-names _ _ _ _ (sym (c .before .before .before .before .before .before .mapped .ensures) ∙ not-false _ (c .before .before .before .before .before .if1 .left)) (omega (arith, (c .before .before .before .before .frame-in .ensures))))
 

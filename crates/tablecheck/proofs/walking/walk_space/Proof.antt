@@ -35,75 +35,58 @@ Inv-loop frames pool opened first part ranges n₀ v₀ at₀ m₀ i₀ n v at m
 abbrev μ-loop : tie.MeasureT-loop
 μ-loop frames pool opened first part ranges n₀ v₀ at₀ m₀ i₀ n v at m i = 1024 - i
 
--- src/walking.rt:139:5
 loop-holds : tie.Need-loop-holds Inv-loop μ-loop
 loop-holds c = (check-start _ _ (omega arith) (omega arith), (fits-start _ _ _ _ _ (c .before .before .before .pre .1 .1 .1 .0), count-start _))
 
--- src/walking.rt:140:22
 cast-w : tie.Need-cast-w Inv-loop μ-loop
 cast-w c = search needs
 
--- src/walking.rt:140:17
 mul-w : tie.Need-mul-w Inv-loop μ-loop
 mul-w c = search needs
 
--- src/walking.rt:140:17
 shared-slice-read-w : tie.Need-shared-slice-read-w Inv-loop μ-loop
 shared-slice-read-w c = search needs
 
--- src/walking.rt:141:13
 joined-requires : tie.Need-joined-requires Inv-loop μ-loop
 joined-requires c κs = search needs
 
--- src/walking.rt:142:13
 step-fits-requires : tie.Need-step-fits-requires Inv-loop μ-loop
 step-fits-requires c κs = (omega arith, (check-room _ _ _ _ _ _ (c .before .before .before .loop .inv .0) _ _ (omega arith) refl (c .joined .ensures), (run-le _ _ _ _ _ _ (c .before .before .before .loop .inv .0 .walked), omega arith)))
 
--- src/walking.rt:143:13
 unsound-requires : tie.Need-unsound-requires Inv-loop μ-loop
 unsound-requires c κs = search needs
 
--- src/walking.rt:143:13
 returns : tie.Need-returns Inv-loop μ-loop
 returns c =
     let no-turn = refuted _ _ (λ p w. c .before .before .step-fits .ensures .no (not-true _ (c .before .if1 .taken)) (end-holds _ _ _ _ _ _ (c .before .before .before .before .before .before .loop .inv .0) p w _ _ (omega arith) refl (c .before .before .before .joined .ensures), word-holds _ _ _ _ _ _ (c .before .before .before .before .before .before .loop .inv .0) p w _ _ (omega arith) refl (c .before .before .before .joined .ensures))) in
     (c .unsound .ensures ∙ part-unlawful _ _ _ _ _ _ no-turn, λ t. true-false _ t (c .unsound .ensures))
 
--- src/walking.rt:145:45
 add-page-fits : tie.Need-add-page-fits Inv-loop μ-loop
 add-page-fits c = search needs
 
--- src/walking.rt:145:13
 page-fits-requires : tie.Need-page-fits-requires Inv-loop μ-loop
 page-fits-requires c κs = search needs
 
--- src/walking.rt:146:13
 unsound-requires-2 : tie.Need-unsound-requires-2 Inv-loop μ-loop
 unsound-requires-2 c κs = search needs
 
--- src/walking.rt:146:13
 returns-2 : tie.Need-returns-2 Inv-loop μ-loop
 returns-2 c =
     let wrong = all-stop _ _ _ (c .before .before .before .before .before .before .before .loop-test .taken) (sym (c .before .before .page-fits .ensures) ∙ not-true _ (c .before .if2 .taken)) in
     (c .unsound2 .ensures ∙ part-wrong _ _ _ _ _ _ (wrong ∙ sym (c .before .before .before .before .before .before .before .before .loop .inv .1 .0)), λ t. true-false _ t (c .unsound2 .ensures))
 
--- src/walking.rt:148:9
 next-place-requires : tie.Need-next-place-requires Inv-loop μ-loop
 next-place-requires c κs = check-room _ _ _ _ _ _ (c .before .before .before .before .before .before .before .loop .inv .0) _ _ (omega arith) refl (c .before .before .before .before .joined .ensures)
 
--- src/walking.rt:149:66
 add-n : tie.Need-add-n Inv-loop μ-loop
 add-n c = search needs
 
--- src/walking.rt:149:13
 over-fitting-requires : tie.Need-over-fitting-requires Inv-loop μ-loop
 over-fitting-requires c κs = (omega arith, (omega arith, (omega arith, (omega arith, omega arith))))
 
--- src/walking.rt:150:13
 goes-on-requires : tie.Need-goes-on-requires Inv-loop μ-loop
 goes-on-requires c κs = omega (arith, run-le _ _ _ _ _ _ (c .before .before .before .before .before .before .before .before .before .loop .inv .0 .walked))
 
--- src/walking.rt:150:13
 add-n-2 : tie.Need-add-n-2 Inv-loop μ-loop
 add-n-2 c =
     let fits = c .before .before .before .before .before .before .before .step-fits .ensures .yes (not-false _ (c .before .before .before .before .before .before .if1 .left)) in
@@ -111,35 +94,28 @@ add-n-2 c =
     let room = along-room _ _ _ _ _ (omega arith) (c .before .before .over-fitting .ensures .0) in
     omega (arith, run-le _ _ _ _ _ _ (turn .walked), room .0, room .1)
 
--- src/walking.rt:151:14
 one-if-mapped-requires : tie.Need-one-if-mapped-requires Inv-loop μ-loop
 one-if-mapped-requires c κs = search needs
 
--- src/walking.rt:151:14
 add-m : tie.Need-add-m Inv-loop μ-loop
 add-m c =
     let room = along-room _ _ _ _ _ (omega arith) (c .before .before .before .before .over-fitting .ensures .0) in
     omega (arith, room .0, room .1, one-small _ _ (c .before .one-if-mapped .ensures))
 
--- src/walking.rt:151:9
 add-m-2 : tie.Need-add-m-2 Inv-loop μ-loop
 add-m-2 c =
     let room = along-room _ _ _ _ _ (omega arith) (c .before .before .before .before .over-fitting .ensures .0) in
     omega (arith, room .0, room .1, one-small _ _ (c .before .one-if-mapped .ensures), c .before .before .before .before .before .before .before .before .before .before .before .before .before .loop .inv .1 .1, count-le (c .before .before .before .before .before .before .before .before .before .before .before .before .before .loop .i) (pageMapped (c .before .before .before .before .before .before .before .before .before .before .before .before .before .before .before .before .before .args .part .now)))
 
--- src/walking.rt:153:14
 add-i : tie.Need-add-i Inv-loop μ-loop
 add-i c = let room = along-room _ _ _ _ _ (omega arith) (c .before .before .before .before .before .over-fitting .ensures .0) in omega (arith, room .0)
 
--- src/walking.rt:153:9
 add-i-2 : tie.Need-add-i-2 Inv-loop μ-loop
 add-i-2 c = let room = along-room _ _ _ _ _ (omega arith) (c .before .before .before .before .before .over-fitting .ensures .0) in omega (arith, room .0)
 
--- src/walking.rt:139:5
 loop-less : tie.Need-loop-less Inv-loop μ-loop
 loop-less c = omega arith
 
--- src/walking.rt:139:5
 loop-again : tie.Need-loop-again Inv-loop μ-loop
 loop-again c =
     let fits = c .before .before .before .before .before .before .before .before .before .before .step-fits .ensures .yes (not-false _ (c .before .before .before .before .before .before .before .before .before .if1 .left)) in
@@ -151,13 +127,11 @@ loop-again c =
       ),
     )
 
--- src/walking.rt:155:9
 rest-fits-requires : tie.Need-rest-fits-requires Inv-loop μ-loop
 rest-fits-requires c κs =
     let e : c .before .loop .i ≡ 1024 = omega (arith, c .before .loop .inv .0 .walked .inside) in
     (omega arith, (rw e at (end-room _ _ _ _ _ _ (c .before .loop .inv .0) e), omega (arith, run-le _ _ _ _ _ _ (c .before .loop .inv .0 .walked))))
 
--- src/walking.rt:118:1
 returns-3 : tie.Need-returns-3 Inv-loop μ-loop
 returns-3 c =
     let e : c .before .before .loop .i ≡ 1024 = omega (arith, c .before .before .loop .inv .0 .walked .inside) in

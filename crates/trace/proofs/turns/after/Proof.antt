@@ -10,23 +10,18 @@ use Rattle.trace.proofs.turns.after.Lts as lts
 use Rattle.records.proofs.rest.Reads as rest-reads
 use Rattle.trace.proofs.turns.show.Reads as show-reads
 
--- src/turns.rt:166:9
 rest-requires : tie.Need-rest-requires
 rest-requires c κs = search needs
 
--- src/turns.rt:168:17
 add-t7 : tie.Need-add-t7
 add-t7 c = search needs
 
--- src/turns.rt:170:15
 show-requires : tie.Need-show-requires
 show-requires c κs = search needs
 
--- src/turns.rt:159:1
 same-length : tie.Need-same-length
 same-length c = search needs
 
--- src/turns.rt:159:1
 returns : tie.Need-returns
 returns c =
     let a = c .before .before .before .before .before .before .before .before .before .args in

@@ -7,55 +7,42 @@ use Rattle.trace.proofs.turns.answer.Lts as lts
 use Rattle.recordcalls.proofs.take.Reads as take-reads
 use Rattle.trace.proofs.turns.stop.Reads as stop-reads
 
--- src/turns.rt:84:19
 enum-told : tie.Need-enum-told
 enum-told c = search needs
 
--- src/turns.rt:84:19
 stop-requires : tie.Need-stop-requires
 stop-requires c κs = search needs
 
--- src/turns.rt:88:19
 enum-told-2 : tie.Need-enum-told-2
 enum-told-2 c = search needs
 
--- src/turns.rt:88:19
 stop-requires-2 : tie.Need-stop-requires-2
 stop-requires-2 c κs = search needs
 
--- src/turns.rt:91:21
 enum-known-next : tie.Need-enum-known-next
 enum-known-next c = search needs
 
--- src/turns.rt:92:17
 take-requires : tie.Need-take-requires
 take-requires c κs = search needs
 
--- src/turns.rt:72:1
 returns : tie.Need-returns
 returns c = came-end _ _ _ _ (c .before .enum-told .given .1) (c .stop .ensures)
 
--- src/turns.rt:72:1
 returns-2 : tie.Need-returns-2
 returns-2 c = came-cut _ _ _ _ (c .before .enum-told2 .given .1) (c .stop2 .ensures)
 
--- src/turns.rt:72:1
 same-length : tie.Need-same-length
 same-length c = search needs
 
--- src/turns.rt:72:1
 same-length-2 : tie.Need-same-length-2
 same-length-2 c = search needs
 
--- src/turns.rt:72:1
 same-length-3 : tie.Need-same-length-3
 same-length-3 c = search needs
 
--- src/turns.rt:72:1
 same-length-4 : tie.Need-same-length-4
 same-length-4 c = search needs
 
--- src/turns.rt:72:1
 returns-3 : tie.Need-returns-3
 returns-3 c = came-taken _ _ _ _ _ _ _ _ (c .before .before .before .before .before .before .before .before .before .before .before .before .before .before .before .before .next .given .1) (c .before .before .before .before .before .before .before .before .before .before .take .ensures)
 

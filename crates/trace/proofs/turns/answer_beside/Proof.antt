@@ -9,56 +9,43 @@ use Rattle.trace.proofs.turns.answer_beside.Lts as lts
 use Rattle.recordcalls.proofs.take_beside.Reads as take-beside-reads
 use Rattle.trace.proofs.turns.stop.Reads as stop-reads
 
--- src/turns.rt:121:19
 enum-told : tie.Need-enum-told
 enum-told c = search needs
 
--- src/turns.rt:121:19
 stop-requires : tie.Need-stop-requires
 stop-requires c κs = search needs
 
--- src/turns.rt:125:19
 enum-told-2 : tie.Need-enum-told-2
 enum-told-2 c = search needs
 
--- src/turns.rt:125:19
 stop-requires-2 : tie.Need-stop-requires-2
 stop-requires-2 c κs = search needs
 
--- src/turns.rt:128:21
 enum-known-next : tie.Need-enum-known-next
 enum-known-next c = search needs
 
--- src/turns.rt:129:17
 take-beside-requires : tie.Need-take-beside-requires
 unfolding wantsUnit
 take-beside-requires c κs = sym (ap wantsUnit (c .before .before .before .before .before .next .given .1)) ∙ c .before .before .before .before .before .before .before .before .before .before .before .pre
 
--- src/turns.rt:109:1
 returns : tie.Need-returns
 returns c = λ p. came-end _ p _ _ (c .before .enum-told .given .1) (c .stop .ensures)
 
--- src/turns.rt:109:1
 returns-2 : tie.Need-returns-2
 returns-2 c = λ p. came-cut _ p _ _ (c .before .enum-told2 .given .1) (c .stop2 .ensures)
 
--- src/turns.rt:109:1
 same-length : tie.Need-same-length
 same-length c = search needs
 
--- src/turns.rt:109:1
 same-length-2 : tie.Need-same-length-2
 same-length-2 c = search needs
 
--- src/turns.rt:109:1
 same-length-3 : tie.Need-same-length-3
 same-length-3 c = search needs
 
--- src/turns.rt:109:1
 same-length-4 : tie.Need-same-length-4
 same-length-4 c = search needs
 
--- src/turns.rt:109:1
 returns-3 : tie.Need-returns-3
 returns-3 c = λ p. came-taken _ p _ _ _ _ _ _ (c .before .before .before .before .before .before .before .before .before .before .before .before .before .before .before .next .given .1) (c .before .before .before .before .before .before .before .before .before .take-beside .ensures .taken p)
 

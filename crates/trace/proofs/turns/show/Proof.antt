@@ -13,15 +13,12 @@ use Rattle.trace.proofs.turns.show.Reads as reads
 use Rattle.trace.proofs.turns.show.Lts as lts
 use Rattle.records.proofs.line.Reads as line-reads
 
--- src/turns.rt:153:9
 line-requires : tie.Need-line-requires
 line-requires c κs = search needs
 
--- src/turns.rt:153:9
 same-length : tie.Need-same-length
 same-length c = search needs
 
--- src/turns.rt:153:9
 returns : tie.Need-returns
 returns c =
     let a = c .before .before .before .before .before .before .before .args in
@@ -29,7 +26,6 @@ returns c =
     let l = c .before .before .line .ensures in
     (l .0 ∙ ap (λ (x : List ℕ). written (a .held) x (a .lines .now)) e, (l .1 .0 ∙ ap (λ (x : List ℕ). a .held + length x) e, omega (arith, l .1 .1)))
 
--- src/turns.rt:145:1
 returns-2 : tie.Need-returns-2
 returns-2 c =
     let a = c .before .before .args in

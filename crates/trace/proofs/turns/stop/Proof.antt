@@ -9,11 +9,9 @@ use Rattle.trace.proofs.turns.stop.Reads as reads
 use Rattle.trace.proofs.turns.stop.Lts as lts
 use Rattle.recordcalls.proofs.malformed.Reads as malformed-reads
 
--- src/turns.rt:66:18
 malformed-requires : tie.Need-malformed-requires
 malformed-requires c κs = search needs
 
--- src/turns.rt:60:1
 returns : tie.Need-returns
 unfolding stopped
 returns c = ap (λ (o : Outcome). record { shows = c .before .args .shows; kind = 0; outcome = o; goes = false }) (c .malformed .ensures)

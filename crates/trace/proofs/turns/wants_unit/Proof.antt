@@ -7,33 +7,26 @@ use Rattle.trace.proofs.turns.wants_unit.Reads as reads
 use Rattle.trace.proofs.turns.wants_unit.Lts as lts
 use Rattle.recordcalls.proofs.needs_unit.Reads as needs-unit-reads
 
--- src/turns.rt:53:22
 enum-told : tie.Need-enum-told
 enum-told c = search needs
 
--- src/turns.rt:54:22
 enum-told-2 : tie.Need-enum-told-2
 enum-told-2 c = search needs
 
--- src/turns.rt:55:21
 enum-known-next : tie.Need-enum-known-next
 enum-known-next c = search needs
 
--- src/turns.rt:55:27
 needs-unit-requires : tie.Need-needs-unit-requires
 needs-unit-requires c κs = search needs
 
--- src/turns.rt:49:1
 returns : tie.Need-returns
 unfolding wantsUnit
 returns c = search needs
 
--- src/turns.rt:49:1
 returns-2 : tie.Need-returns-2
 unfolding wantsUnit
 returns-2 c = search needs
 
--- src/turns.rt:49:1
 returns-3 : tie.Need-returns-3
 unfolding wantsUnit
 returns-3 c = c .needs-unit .ensures ∙ sym (ap wantsUnit (c .before .before .next .given .1))
