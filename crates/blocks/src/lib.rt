@@ -5,6 +5,7 @@ pub const LARGEST_POOL: u32 = 4096;
 
 pub const LAST_FRAME: u32 = 4095;
 
+// The words of the frame buffer.
 pub const BUFFER_WORDS: usize = 4096;
 
 // Owners are 1 to 4,096; a frame word up to that names one.

@@ -12,6 +12,7 @@ use runs::PAGES;
 use runs::Page;
 use words::writes::fill;
 
+// Where F, C and the open mask stand.
 const POOL: usize = 0;
 
 const REMOVALS: usize = 1;
@@ -25,8 +26,10 @@ const RECORD_WORDS: u32 = 3;
 
 pub const PLACES: u32 = 64;
 
+// The words of the control buffer.
 pub const WORDS: usize = 195;
 
+// The mask with all four spaces open.
 const ALL_OPEN: u32 = 15;
 
 pub fn pool_size(control: &[u32]) -> u32

@@ -2,11 +2,10 @@
 ghost use mathlib.Core.Path.{_≡_};
 ghost use mathlib.Core.Bool.{true, _&&_};
 ghost use lib.ListN.{length};
-ghost use Rattle.runs.specs.PageWords.{pagesInSpace};
+ghost use Rattle.runs.specs.PageWords.{pagesInSpace, mapped, rangeBit};
 ghost use Rattle.words.specs.Counts.{count, one-if};
 ghost use Rattle.words.specs.Searches.{anyFrom};
 ghost use Rattle.words.specs.Rows.{refusal, numberOf};
-ghost use Rattle.runs.specs.PageWords.{mapped, rangeBit};
 ghost use Rattle.layout.specs.declared.TableCall.the-variants.{Coverage};
 ghost use Rattle.layout.specs.Answers.{outcome};
 ghost use Rattle.layout.specs.Tables.{tables};

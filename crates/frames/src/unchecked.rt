@@ -1,5 +1,4 @@
 // What a layer above calls in place of the public calls: the judgement of the buffer by itself, and functions that ask for it beforehand.
-pub use blocks::Judged;
 pub use framewords::buffer::size_of;
 pub use framewords::owners::count_free;
 pub use merging::fresh;

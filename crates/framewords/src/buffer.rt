@@ -1,4 +1,4 @@
-// Reading and writing runs of words of a lent buffer.
+// Reading and writing stretches of words of a lent buffer.
 ghost use mathlib.Core.Path.{_≡_};
 ghost use mathlib.Core.Bool.{true};
 ghost use Prim.Native.Nat.{_+_, _-_, _^_, _≤_, _<_};
@@ -23,6 +23,7 @@ pub fn owner_of(w: u32) -> u32
     0
 }
 
+// 1 for the word of a frame without an owner, else 0.
 pub fn one_if_free(w: u32) -> u32
     ensures { λ r. ⌜ r ≡ one-if (eqb (ownerOf w) 0) ⌝ }
     ensures { λ r. ⌜ r ≤ 1 ⌝ }

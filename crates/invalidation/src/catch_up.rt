@@ -67,6 +67,7 @@ fn overlaps(d: Removal, e: RangeEntry) -> bool
     d.first < e.limit
 }
 
+// The entry, or zeros where the record names it.
 fn keep_page(d: Removal, e: PageEntry) -> PageEntry
     requires { ⌜ d .first + d .count ≤ pagesInSpace ⌝ }
     ensures { λ r. ⌜ r ≡ keepPage d e ⌝ }
@@ -83,6 +84,7 @@ fn keep_page(d: Removal, e: PageEntry) -> PageEntry
     e
 }
 
+// The entry, or zeros where the record overlaps it.
 fn keep_range(d: Removal, e: RangeEntry) -> RangeEntry
     requires { ⌜ d .first + d .count ≤ pagesInSpace ⌝ }
     ensures { λ r. ⌜ r ≡ keepRange d e ⌝ }

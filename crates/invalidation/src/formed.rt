@@ -48,7 +48,7 @@ fn sits_at(k: u32, p: u32) -> bool
     p % PAGE_PLACES == k
 }
 
-// The page entry at place k.
+// Whether the page entry may stand at place k.
 fn page_entry_ok(k: u32, e: PageEntry) -> bool
     ensures { λ r. ⌜ r ≡ pageEntryOk k e ⌝ }
 {
@@ -105,7 +105,7 @@ fn frames_fit(base: u32, limit: u32, offset: u32) -> bool
     f.0 + (limit - base) <= LARGEST_POOL
 }
 
-// A range entry, at any place.
+// Whether the range entry keeps its layout, at whatever place.
 fn range_entry_ok(e: RangeEntry) -> bool
     ensures { λ r. ⌜ ((k : ℕ) → r ≡ rangeEntryOk k e) ⌝ }
 {

@@ -37,7 +37,7 @@ fn single_at(frames: &[u32], pool: u32, f: Frame) -> Frame
 }
 
 // The frame after the free block at f, or frame 0 where its words are not lawful.
-// The words themselves are asked for the order, and each is read once; only the other half of the next larger block is read twice.
+// The words themselves are asked for the order; beside the block's own words only the other half of the next larger block is read, up to its first held frame or the chunk that has it.
 fn block_at(frames: &[u32], pool: u32, f: Frame) -> Frame
     requires { ⌜ length (now frames) ≡ frameBufferWords ⌝ }
     requires { ⌜ pool ≤ largestPool ⌝ }

@@ -1,9 +1,8 @@
 // Page words and OFFSETs. Only here a frame number comes out of a page word, or out of a page number and an OFFSET.
 ghost use mathlib.Core.Path.{_≡_};
 ghost use Prim.Native.Nat.{_≤_};
-ghost use Rattle.words.specs.Wrapping.{wordBits};
+ghost use Rattle.words.specs.Wrapping.{wordBits, wrapAdd, wrapSub};
 ghost use Rattle.words.specs.Counts.{one-if};
-ghost use Rattle.words.specs.Wrapping.{wrapAdd, wrapSub};
 ghost use Rattle.runs.specs.PageWords.{pageWord, mapped, rangeBit, rightsIn, frameIn};
 ghost use Rattle.runs.specs.Walk.{bitWord};
 use blocks::Frame;

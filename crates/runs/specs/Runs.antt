@@ -4,8 +4,7 @@ use mathlib.Core.Bool.{true}
 use mathlib.Core.List.{List, [], _∷_, _++_}
 use Prim.Native.Nat.{ℕ, suc, _+_, _-_, _^_, _≤_, _<_}
 use lib.ListN.{length, getD, replicate}
-use Rattle.words.specs.Wrapping.{wordBits}
-use Rattle.words.specs.Wrapping.{wrapAdd}
+use Rattle.words.specs.Wrapping.{wordBits, wrapAdd}
 use Rattle.runs.specs.PageWords.{mapped, rangeBit, rightsIn, frameIn, isPageWord}
 
 -- "the longest runs of at least 8 pages"

@@ -5,8 +5,7 @@ use Prim.Native.Nat.{ℕ, zero, suc, _+_, _-_}
 use lib.Dec.{leb, eqb}
 use lib.ListN.{length, getD, replicate}
 use Rattle.words.specs.Counts.{one-if}
-use Rattle.words.specs.Wrapping.{wordBits}
-use Rattle.words.specs.Wrapping.{wrapSub}
+use Rattle.words.specs.Wrapping.{wordBits, wrapSub}
 use Rattle.runs.specs.PageWords.{pageWord, mapped, rightsIn, frameIn}
 use Rattle.runs.specs.Runs.{smallestRange, rangeWordsInSpace}
 

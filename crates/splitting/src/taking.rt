@@ -52,7 +52,7 @@ fn take_at(frames: &mut [u32], pool: u32, b: Block, owner: u32)
     halve(frames, start, order, top);
 }
 
-// Takes the block of the owners from `owner` on while `left` pages are left, where earlier searches have shown `known`.
+// Takes the block that the map rule gives while `left` pages are left, for the owners from `owner` on; earlier searches have shown `known`.
 pub fn take_block(frames: &mut [u32], pool: u32, owner: u32, left: u32, known: Bound) -> Chosen
     requires { ⌜ lawful pool (now frames) ≡ true ⌝ }
     requires { ⌜ 1 ≤ left ⌝ }

@@ -1,3 +1,3 @@
 pub mod SpanLaws
 pub mod WalkingLaws
-pub mod JudgingLaws
+pub mod SoundnessLaws

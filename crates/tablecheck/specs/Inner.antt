@@ -1,4 +1,4 @@
--- What the steps of the judgement decide.
+-- What the steps of the table check decide.
 use mathlib.Core.Path.{_≡_}
 use mathlib.Core.Bool.{Bool, Bool·beq, _&&_, _||_, not}
 use mathlib.Core.List.{List}

@@ -17,6 +17,7 @@ const PAGE_ENTRY_WORDS: usize = 5;
 
 const RANGE_ENTRY_WORDS: usize = 6;
 
+// Where the range entries begin; where last used, the next place and the records seen stand.
 const RANGES_FROM: usize = 320;
 
 const LAST_AT: usize = 512;

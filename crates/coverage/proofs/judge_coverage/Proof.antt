@@ -8,7 +8,7 @@ use Rattle.words.specs.Rows.{refusal}
 use Rattle.words.proofs.RefusalLaws.{refused, passed, decided}
 use Rattle.words.proofs.RowLaws.{none-first, stops, refused-then, judged-then}
 use Rattle.refusals.specs.Inner.{shared}
-use Rattle.refusals.proofs.VerdictLaws.{shared-order, shared-shown, coverage-parts, any-by}
+use Rattle.refusals.proofs.ConditionLaws.{shared-order, shared-shown, coverage-parts, any-by}
 
 judge-shared-requires : tie.Need-judge-shared-requires
 judge-shared-requires c κs = search needs

@@ -9,7 +9,7 @@ use Rattle.words.proofs.RefusalLaws.{refused, passed, decided}
 use Rattle.words.proofs.RowLaws.{none-first, stops, refused-then, judged-then}
 use Rattle.refusals.specs.Inner.{ofTables}
 use Rattle.layout.proofs.CallLaws.{open-by}
-use Rattle.refusals.proofs.VerdictLaws.{tables-order, tables-shown, open-parts}
+use Rattle.refusals.proofs.ConditionLaws.{tables-order, tables-shown, open-parts}
 
 judge-tables-requires : tie.Need-judge-tables-requires
 judge-tables-requires c κs = search needs

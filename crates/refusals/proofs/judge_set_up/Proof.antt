@@ -7,7 +7,7 @@ use borrow.Author.Tests.{not-true, not-false}
 use Rattle.words.specs.Rows.{refusal, numberOf, after}
 use Rattle.words.proofs.RefusalLaws.{refused, passed, decided}
 use Rattle.layout.specs.Calls.{sizedRow, row}
-use Rattle.refusals.proofs.VerdictLaws.{size-low, size-high, size-right}
+use Rattle.refusals.proofs.ConditionLaws.{size-low, size-high, size-right}
 
 right-lengths-requires : tie.Need-right-lengths-requires
 right-lengths-requires c κs = search needs

@@ -4,7 +4,7 @@ use Rattle.refusals.proofs.judge_shared.Tie as tie
 use mathlib.Core.Path.{ap, sym, _∙_}
 use Rattle.words.specs.Rows.{refusal}
 use Rattle.refusals.specs.Inner.{ofTables, ofSpan, shared}
-use Rattle.refusals.proofs.VerdictLaws.{tables-order, tables-shown}
+use Rattle.refusals.proofs.ConditionLaws.{tables-order, tables-shown}
 use Rattle.words.proofs.RowLaws.{none-first, stops, goes-on}
 
 judge-tables-requires : tie.Need-judge-tables-requires

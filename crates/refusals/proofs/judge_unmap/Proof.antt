@@ -3,7 +3,7 @@ use Rattle.refusals.proofs.judge_unmap.Statement.{statement}
 use Rattle.refusals.proofs.judge_unmap.Tie as tie
 use mathlib.Core.Path.{ap, sym, _∙_}
 use Rattle.words.specs.Rows.{refusal}
-use Rattle.refusals.proofs.VerdictLaws.{unmap-parts}
+use Rattle.refusals.proofs.ConditionLaws.{unmap-parts}
 
 judge-protect-requires : tie.Need-judge-protect-requires
 judge-protect-requires c κs = search needs

@@ -8,7 +8,7 @@ use Rattle.words.specs.Rows.{refusal}
 use Rattle.words.proofs.RefusalLaws.{refused, passed, decided}
 use Rattle.refusals.specs.Inner.{ofSpan}
 use Rattle.layout.proofs.CallLaws.{open-by}
-use Rattle.refusals.proofs.VerdictLaws.{rights-pass, rights-fail}
+use Rattle.refusals.proofs.ConditionLaws.{rights-pass, rights-fail}
 
 returns : tie.Need-returns
 unfolding ofSpan

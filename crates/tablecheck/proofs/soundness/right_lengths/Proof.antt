@@ -1,6 +1,6 @@
 use Rattle.tablecheck.proofs.soundness.right_lengths.Statement.{statement}
 use Rattle.tablecheck.proofs.soundness.right_lengths.Tie as tie
-use Rattle.tablecheck.proofs.JudgingLaws.{wrong-lengths, lengths-last}
+use Rattle.tablecheck.proofs.SoundnessLaws.{wrong-lengths, lengths-last}
 
 returns : tie.Need-returns
 returns c = wrong-lengths _ (λ l. c .if1 .taken (l .control))

@@ -3,7 +3,7 @@ use Rattle.tablecheck.proofs.soundness.tables_sound.Statement.{statemen
 use Rattle.tablecheck.proofs.soundness.tables_sound.Tie as tie
 use mathlib.Core.Path.{sym, _∙_}
 use borrow.Author.Tests.{not-true, not-false}
-use Rattle.tablecheck.proofs.JudgingLaws.{pool-small, bad-control, bad-frames, bad-spaces, by-counting}
+use Rattle.tablecheck.proofs.SoundnessLaws.{pool-small, bad-control, bad-frames, bad-spaces, by-counting}
 
 control-lawful-requires : tie.Need-control-lawful-requires
 control-lawful-requires c κs = search needs
