@@ -47,12 +47,19 @@ lent-long : (c : TableCall) (T : Tables) → NoneApplies (row T c .refusals) →
 unfolding row after rightLengths
 lent-long c T (next a more) = eqb-true _ _ (and-true (eqb (length (T .control)) controlBufferWords) _ (not-false _ a) .0)
 
--- one record more behind control words d that have the log of c
-recorded : (c d : List ℕ) → length d ≡ controlBufferWords → removals d ≡ removals c → ((j : ℕ) → SamePlace c d j) → (s first n : ℕ) → Recorded c (appended d s first n) s first n
-recorded c d long same stay s first n =
+-- the record is counted
+counted : (c : TableCall) (s first n : ℕ) → Appends c s first n → (T : Tables) → length (T .control) ≡ controlBufferWords → removals (row T c .new .control) ≡ removals (T .control) + 1
+unfolding row after sizedRow tablesOf plainOf closePlain unmapPlain protectPlain withClosed
+counted c s first n Statements.close T long = simp (appended-removals, mask-removals, mask-length, long)
+counted c s first n Statements.unmap T long = omega (arith, appended-removals (T .control) s first n long)
+counted c s first n Statements.protect T long = omega (arith, appended-removals (T .control) s first n long)
+
+-- and stands in its place, behind control words d that have the log of c
+recorded : (c d : List ℕ) → length d ≡ controlBufferWords → ((j : ℕ) → SamePlace c d j) → (s first n : ℕ) → removals (appended d s first n) ≡ removals c + 1 → Recorded c (appended d s first n) s first n
+recorded c d long stay s first n more =
     let k : removals (appended d s first n) ≡ removals d + 1 = appended-removals d s first n long in
     record {
-      counted = omega (arith, k, same);
+      counted = more;
       space = rw k (appended-space d s first n long);
       first-page = rw k (appended-first d s first n long);
       page-count = rw k (appended-count d s first n long);
@@ -66,9 +73,9 @@ log-stays c j = record { space = refl; first = refl; count = refl }
 
 new-recorded : (c : TableCall) (s first n : ℕ) → Appends c s first n → (T : Tables) → length (T .control) ≡ controlBufferWords → Recorded (T .control) (row T c .new .control) s first n
 unfolding row after sizedRow tablesOf plainOf closePlain unmapPlain protectPlain withClosed
-new-recorded c s first n Statements.close T long = recorded (T .control) (withClosed (T .control) s) (mask-length _ _ ∙ long) (mask-removals _ _) (mask-places _ _) s 0 pagesInSpace
-new-recorded c s first n Statements.unmap T long = recorded (T .control) (T .control) long refl (log-stays (T .control)) s first n
-new-recorded c s first n Statements.protect T long = recorded (T .control) (T .control) long refl (log-stays (T .control)) s first n
+new-recorded c s first n Statements.close T long = recorded (T .control) (withClosed (T .control) s) (mask-length _ _ ∙ long) (mask-places _ _) s 0 pagesInSpace (counted c s first n Statements.close T long)
+new-recorded c s first n Statements.unmap T long = recorded (T .control) (T .control) long (log-stays (T .control)) s first n (counted c s first n Statements.unmap T long)
+new-recorded c s first n Statements.protect T long = recorded (T .control) (T .control) long (log-stays (T .control)) s first n (counted c s first n Statements.protect T long)
 
 pub removals-recorded : RemovalsRecorded
 unfolding RemovalsRecorded
