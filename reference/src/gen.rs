@@ -604,6 +604,9 @@ impl<W: Write> Maker<'_, W> {
             self.call(OPEN, &[0])?;
             self.call(OPEN, &[1])?;
             for _ in 0..self.random.among(1, 4) {
+                if self.random.one_in(2) {
+                    self.halve()?;
+                }
                 self.fill_pool()?;
                 self.break_up()?;
                 self.look_around(6)?;
@@ -629,6 +632,67 @@ impl<W: Write> Maker<'_, W> {
                 true => self.do_coverage()?,
                 false => self.do_translate(unit)?,
             };
+        }
+        Ok(())
+    }
+
+    /// Empties a space, brings its coverage to an exact half and asks for it.
+    /// Where frames are lacking or lie scattered, another coverage comes out.
+    fn halve(&mut self) -> Step<bool> {
+        let space = self.random.among(0, 3);
+        if self.core.buffers.is_open(space as u32) {
+            self.call(CLOSE, &[space])?;
+        }
+        self.call(OPEN, &[space])?;
+        // Multiples of 32 pages have halves, others have none.
+        let free = self.free_frames().min(1024);
+        let mapped = 32 * self.random.among(1, (free / 32).max(1));
+        // Few pages lie outside ranges, so that a few calls suffice. 29 of 32 are
+        // a half that goes down, 31 of 32 one that goes up.
+        let outside = self.random.pick(&[40, 40, 120]).max(mapped / 32 * 3);
+        let way = self.random.pick(&[Half::Down, Half::Up]);
+        let fitting: Vec<u16> = (8..mapped)
+            .filter(|&inside| mapped - inside <= outside)
+            .filter(|&inside| half(inside as u32, mapped as u32) == Some(way))
+            .collect();
+        let inside = self.random.pick(&fitting);
+        // Single pages would need the most gaps.
+        let gaps_fit = mapped + (mapped - inside) <= 1024;
+        match gaps_fit && self.random.one_in(2) {
+            true => self.spans_apart(space, inside, mapped)?,
+            false => self.end_in_pieces(space, inside, mapped)?,
+        }
+        self.call(COVERAGE, &[space])
+    }
+
+    /// Maps a long span, and short ones apart from it and from one another.
+    fn spans_apart(&mut self, space: u16, inside: u16, mapped: u16) -> Step<()> {
+        let mut left = mapped - inside;
+        let first = self.random.among(0, 1024 - mapped - left);
+        let rights = self.rights();
+        let mut done = self.call(MAP, &[space, first, inside, rights])?;
+        let mut page = first + inside + 1;
+        while done && left > 0 {
+            let count = self.random.among(4, 7).min(left);
+            done = self.call(MAP, &[space, page, count, rights])?;
+            page += count + 1;
+            left -= count;
+        }
+        Ok(())
+    }
+
+    /// Maps one span and parts its end into short pieces by their rights.
+    fn end_in_pieces(&mut self, space: u16, inside: u16, mapped: u16) -> Step<()> {
+        let first = self.random.among(0, 1024 - mapped);
+        let mut done = self.call(MAP, &[space, first, mapped, 3])?;
+        let mut left = mapped - inside;
+        let mut rights = 1;
+        while done && left > 0 {
+            let count = self.random.among(4, 7).min(left);
+            left -= count;
+            done = self.call(PROTECT, &[space, first + inside + left, count, rights])?;
+            // Neighbours differ from one another and from the span.
+            rights = 8 - rights;
         }
         Ok(())
     }

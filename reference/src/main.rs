@@ -45,7 +45,7 @@ fn invalid(what: &str) -> io::Error {
 /// The rules, with the planted bug that REFERENCE_BUG names.
 fn rules() -> io::Result<Rules> {
     let name = std::env::var("REFERENCE_BUG").unwrap_or_default();
-    Rules::with_bug(&name).ok_or_else(|| invalid("REFERENCE_BUG is 65, limit or keep"))
+    Rules::with_bug(&name).ok_or_else(|| invalid("REFERENCE_BUG is 65, limit, keep or half"))
 }
 
 fn command(args: &[&str]) -> io::Result<()> {

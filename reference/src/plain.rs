@@ -6,6 +6,25 @@ use crate::trace::*;
 use crate::unit::{PageEntry, RangeEntry, Unit};
 use crate::words::*;
 
+/// The whole figure nearest to 10,000 × inside / mapped: of the two neighbours
+/// that have it between them the one that is off by less, else the even one. They
+/// are searched, so that nothing is divided by the mapped pages.
+pub fn nearest(inside: u32, mapped: u32) -> u32 {
+    let (mut low, mut high) = (0, 10_000);
+    while high - low > 1 {
+        let middle = (low + high) / 2;
+        match middle * mapped <= 10_000 * inside {
+            true => low = middle,
+            false => high = middle,
+        }
+    }
+    let off = |figure: u32| (figure * mapped).abs_diff(10_000 * inside);
+    [low, high]
+        .into_iter()
+        .min_by_key(|&figure| (off(figure), figure % 2))
+        .unwrap()
+}
+
 /// What the calls have left: held pages with frame and rights.
 #[derive(Clone, Default)]
 pub struct Plain {
@@ -143,7 +162,7 @@ impl Plain {
     pub fn coverage(&self, space: u32) -> u32 {
         let mapped = self.held.keys().filter(|k| k.0 == space).count() as u32;
         let inside: u32 = self.ranges(space).iter().map(|r| r.1 - r.0).sum();
-        10_000 * inside / mapped
+        nearest(inside, mapped)
     }
 
     /// The words of the four buffers.

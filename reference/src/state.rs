@@ -57,7 +57,7 @@ pub fn perform(
         5 => tables::unmap(b, a0, a1, a2),
         6 => tables::protect(b, a0, a1, a2, a3),
         7 => unit::translate(b, unit, a0, a1, a2, rules),
-        8 => tables::coverage(b, a0),
+        8 => tables::coverage(b, a0, rules),
         9 => unit::set_up_unit(unit),
         _ => return None,
     })

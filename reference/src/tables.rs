@@ -1,6 +1,9 @@
 //! Soundness of the tables, and the calls on them.
 
+use std::cmp::Ordering;
+
 use crate::pool;
+use crate::unit::Rules;
 use crate::words::*;
 
 /// What the check of the tables has found.
@@ -302,7 +305,19 @@ pub fn protect(b: &mut Buffers, space: u32, first: u32, count: u32, rights: u32)
     Ok((changed, 0))
 }
 
-pub fn coverage(b: &Buffers, space: u32) -> Outcome {
+/// 10,000 × inside / mapped, to the nearest whole figure; an exact half goes to
+/// the even one.
+pub fn figure(inside: u32, mapped: u32, rules: &Rules) -> u32 {
+    let (whole, rest) = (10_000 * inside / mapped, 10_000 * inside % mapped);
+    let next = match (2 * rest).cmp(&mapped) {
+        Ordering::Less => false,
+        Ordering::Equal => rules.half_up || whole % 2 == 1,
+        Ordering::Greater => true,
+    };
+    whole + next as u32
+}
+
+pub fn coverage(b: &Buffers, space: u32, rules: &Rules) -> Outcome {
     judge(b)?;
     space_known(space)?;
     space_open(b, space)?;
@@ -312,5 +327,5 @@ pub fn coverage(b: &Buffers, space: u32) -> Outcome {
     if mapped == 0 {
         return Err(12);
     }
-    Ok((10_000 * inside / mapped, 0))
+    Ok((figure(inside, mapped, rules), 0))
 }

@@ -1,7 +1,7 @@
 use crate::gen::{generate, Random, Style};
-use crate::plain::{refusals, unit_kept, Plain, PlainUnit};
+use crate::plain::{nearest, refusals, unit_kept, Plain, PlainUnit};
 use crate::state;
-use crate::tables::{self, judge};
+use crate::tables::{self, figure, judge};
 use crate::text;
 use crate::trace::*;
 use crate::unit::{self, PageEntry, RangeEntry, Rules, Unit, UNIT_WORDS};
@@ -268,6 +268,141 @@ fn answers_in_order() {
     assert_eq!(asked("coverage 0"), "8 0 0 0");
 }
 
+// Coverage to the nearest figure (document 02, change 1).
+
+/// A span of 9 pages; 7, 7, 7 and 2 pages apart from it and from one another.
+const NINE_OF_32: &str = "
+    setup 64
+    open 0
+    map 0 0 9 3
+    map 0 10 7 3
+    map 0 18 7 3
+    map 0 26 7 3
+    map 0 34 2 3
+    coverage 0
+";
+
+/// A span of 11 pages; 7, 7 and 7 pages apart.
+const ELEVEN_OF_32: &str = "
+    setup 64
+    open 0
+    map 0 0 11 3
+    map 0 12 7 3
+    map 0 20 7 3
+    map 0 28 7 3
+    coverage 0
+";
+
+/// Spans of 28 and of 7 and 4 pages.
+const TWENTY_EIGHT_OF_39: &str = "
+    setup 64
+    open 0
+    map 0 0 28 3
+    map 0 29 7 3
+    map 0 37 4 3
+    coverage 0
+";
+
+/// Spans of 11 and of 7, 7, 7 and 7 pages.
+const ELEVEN_OF_39: &str = "
+    setup 64
+    open 0
+    map 0 0 11 3
+    map 0 12 7 3
+    map 0 20 7 3
+    map 0 28 7 3
+    map 0 36 7 3
+    coverage 0
+";
+
+/// Pages in ranges and mapped pages of space 0 after a text's calls, by the range
+/// table and the frames that are held.
+fn of_pages(lines: &str) -> (u32, u32) {
+    let b = core_after(lines).buffers;
+    let inside = b.space_ranges(0).chunks(4).map(|r| r[1] - r[0]).sum();
+    let mapped = b.frames.iter().filter(|&&w| is_held(w)).count() as u32;
+    (inside, mapped)
+}
+
+#[test]
+fn halves_go_to_the_even_figure() {
+    assert_eq!(of_pages(NINE_OF_32), (9, 32));
+    assert_eq!(last_answer(NINE_OF_32), "8 0 2812 0");
+    assert_eq!(of_pages(ELEVEN_OF_32), (11, 32));
+    assert_eq!(last_answer(ELEVEN_OF_32), "8 0 3438 0");
+    assert_eq!(of_pages(LISTING_CALLS), (8, 10));
+    assert_eq!(last_answer(LISTING_CALLS), "8 0 8000 0");
+}
+
+#[test]
+fn beside_a_half_the_nearest_figure() {
+    // 7179.48.. and 2820.51..: the even neighbours are the farther ones.
+    assert_eq!(of_pages(TWENTY_EIGHT_OF_39), (28, 39));
+    assert_eq!(last_answer(TWENTY_EIGHT_OF_39), "8 0 7179 0");
+    assert_eq!(of_pages(ELEVEN_OF_39), (11, 39));
+    assert_eq!(last_answer(ELEVEN_OF_39), "8 0 2821 0");
+    // 8543.4995.. and 1456.5004.., as near as coverage comes to a half.
+    let rules = Rules::default();
+    assert_eq!(figure(874, 1023, &rules), 8543);
+    assert_eq!(figure(149, 1023, &rules), 1457);
+    // Of a figure's 2 × mapped parts, one fewer than half or one more.
+    let mut beside = 0;
+    for mapped in 1..=1024 {
+        for inside in 0..=mapped {
+            let parts = 20_000 * inside % (2 * mapped);
+            let whole = (20_000 * inside - parts) / (2 * mapped);
+            if parts + 1 == mapped {
+                assert_eq!(figure(inside, mapped, &rules), whole);
+                beside += 1;
+            }
+            if parts == mapped + 1 {
+                assert_eq!(figure(inside, mapped, &rules), whole + 1);
+                beside += 1;
+            }
+        }
+    }
+    assert!(beside > 500, "{beside}");
+}
+
+#[test]
+fn figures_both_ways() {
+    let rules = Rules::default();
+    for mapped in 1..=1024 {
+        for inside in 0..=mapped {
+            let f = figure(inside, mapped, &rules);
+            assert_eq!(f, nearest(inside, mapped), "{inside} of {mapped}");
+            // No figure is nearer: it is off by half a figure at most.
+            let (is, meant) = (2 * f * mapped, 20_000 * inside);
+            assert!(is.abs_diff(meant) <= mapped);
+            // The counts of pages tell the halves, and where they go.
+            let goes = match (is + mapped == meant, is == meant + mapped) {
+                (true, _) => Some(Half::Down),
+                (_, true) => Some(Half::Up),
+                _ => None,
+            };
+            assert_eq!(half(inside, mapped), goes, "{inside} of {mapped}");
+            assert!(goes.is_none() || f % 2 == 0);
+        }
+    }
+}
+
+#[test]
+fn halves_are_counted() {
+    let halves = |lines: &str| {
+        let s = counted(&encoded(lines));
+        (s.half_down, s.half_up)
+    };
+    assert_eq!(halves(NINE_OF_32), (1, 0));
+    assert_eq!(halves(ELEVEN_OF_32), (0, 1));
+    for lines in [TWENTY_EIGHT_OF_39, ELEVEN_OF_39, LISTING_CALLS] {
+        assert_eq!(halves(lines), (0, 0));
+    }
+    // Accepted coverage of the space asked, and no other call.
+    let more = "open 1\ncoverage 1\ncoverage 4\nmap 1 0 8 3\ncoverage 1\nprotect 0 0 9 3\n";
+    assert_eq!(halves(&format!("{NINE_OF_32}{more}")), (1, 0));
+    assert_eq!(halves(&format!("{NINE_OF_32}{more}coverage 0")), (2, 0));
+}
+
 // The record file.
 
 #[test]
@@ -385,7 +520,7 @@ fn generator_is_determined() {
     assert_eq!(hash(&all), PINNED);
 }
 
-const PINNED: u64 = 17637109391955080577;
+const PINNED: u64 = 10514165080928902218;
 
 #[test]
 fn mixed_reaches_everything() {
@@ -423,7 +558,19 @@ fn fragment_breaks_pools_up() {
         assert!(s.most_blocks >= 16, "seed {seed}: {}", s.most_blocks);
         assert!(s.ranges_gained >= 50 && s.ranges_lost >= 50);
         assert!(s.answers[MAP as usize][14] > 0);
+        assert!(s.half_down > 0 && s.half_up > 0, "seed {seed}");
     }
+}
+
+#[test]
+fn short_files_reach_halves() {
+    let (mut down, mut up) = (0, 0);
+    for seed in (8..=400).step_by(8) {
+        let s = counted(&generated(seed, 20 + seed % 180, Style::Fragment));
+        down += s.half_down;
+        up += s.half_up;
+    }
+    assert!(down >= 20 && up >= 20, "{down} {up}");
 }
 
 #[test]
@@ -465,13 +612,22 @@ fn planted_bugs_show() {
     let right = Rules::default();
     assert_eq!(Rules::with_bug(""), Some(right));
     assert_eq!(Rules::with_bug("64"), None);
-    for name in ["65", "limit", "keep"] {
+    let bugs = [
+        ("65", Style::Sleep),
+        ("limit", Style::Sleep),
+        ("keep", Style::Sleep),
+        ("half", Style::Fragment),
+    ];
+    for (name, style) in bugs {
         let rules = Rules::with_bug(name).unwrap();
         for seed in 0..4 {
-            let bytes = generated(seed, 4000, Style::Sleep);
+            let bytes = generated(seed, 4000, style);
             assert_ne!(listed(&bytes), listed_by(&bytes, rules), "{name} {seed}");
         }
     }
+    let half = Rules::with_bug("half").unwrap();
+    assert!(listed_by(&encoded(NINE_OF_32), half).ends_with(" 8 0 2813 0\n"));
+    assert!(listed_by(&encoded(ELEVEN_OF_32), half).ends_with(" 8 0 3438 0\n"));
 }
 
 // Against the rules written down slowly.

@@ -160,7 +160,7 @@ impl Core {
             PROTECT => tables::protect(b, a0, a1, a2, a3),
             TRANSLATE if a0 > 1 => Err(16),
             TRANSLATE => unit::translate(b, &mut self.units[a0 as usize], a1, a2, a3, &self.rules),
-            COVERAGE => tables::coverage(b, a0),
+            COVERAGE => tables::coverage(b, a0, &self.rules),
             _ => Err(16),
         }
     }
@@ -223,6 +223,25 @@ pub fn run<R: Read, W: Write>(input: R, output: &mut W, rules: Rules) -> io::Res
     Ok(number)
 }
 
+/// Where coverage goes from an exact half.
+#[derive(Clone, Copy, PartialEq, Eq, Debug)]
+pub enum Half {
+    Down,
+    Up,
+}
+
+/// The exact half that 10,000 × inside / mapped is, if it is one: an odd number
+/// of halves. One more than a multiple of four has the even figure below it,
+/// three more have it above.
+pub fn half(inside: u32, mapped: u32) -> Option<Half> {
+    let (halves, rest) = (20_000 * inside / mapped, 20_000 * inside % mapped);
+    match halves % 4 {
+        1 if rest == 0 => Some(Half::Down),
+        3 if rest == 0 => Some(Half::Up),
+        _ => None,
+    }
+}
+
 /// Counts over a run.
 #[derive(Default, Debug)]
 pub struct Stats {
@@ -235,6 +254,10 @@ pub struct Stats {
     pub behind: [[u64; 2]; 3],
     /// Valid range entries that way 3 replaced.
     pub replaced: u64,
+    /// Coverages that were an exact half and went to the even figure below it.
+    pub half_down: u64,
+    /// The same, to the even figure above it.
+    pub half_up: u64,
     pub most_blocks: u32,
     pub most_pages: u32,
     pub most_ranges: u32,
@@ -247,12 +270,20 @@ fn ranges_used(b: &Buffers) -> u32 {
     b.ranges.chunks_exact(4).filter(|r| r[1] != 0).count() as u32
 }
 
+/// Pages of a space in ranges, and its mapped pages.
+fn pages_counted(b: &Buffers, space: u32) -> (u32, u32) {
+    let pages = b.space_pages(space);
+    let inside = pages.iter().filter(|&&w| in_range(w)).count() as u32;
+    let mapped = pages.iter().filter(|&&w| w != 0).count() as u32;
+    (inside, mapped)
+}
+
 pub fn stats<R: Read>(input: R, rules: Rules) -> io::Result<Stats> {
     let mut stats = Stats::default();
     let mut core = Core::new(rules);
     let behind = std::cell::Cell::new(0);
     let replaced = std::cell::Cell::new(false);
-    let asked = std::cell::Cell::new(0);
+    let asked = std::cell::Cell::new([0; 4]);
     let mut ranges = 0;
     each_record(
         input,
@@ -271,7 +302,7 @@ pub fn stats<R: Read>(input: R, rules: Rules) -> io::Result<Stats> {
                         && in_range(core.buffers.page(space, page)),
                 );
             }
-            asked.set(call.args[2] as u32);
+            asked.set(call.args.map(u32::from));
         },
         |core, line| {
             stats.records += 1;
@@ -289,7 +320,13 @@ pub fn stats<R: Read>(input: R, rules: Rules) -> io::Result<Stats> {
                 }
                 if line.kind == MAP {
                     stats.most_blocks = stats.most_blocks.max(first);
-                    stats.most_pages = stats.most_pages.max(asked.get());
+                    stats.most_pages = stats.most_pages.max(asked.get()[2]);
+                }
+                if line.kind == COVERAGE {
+                    let (inside, mapped) = pages_counted(&core.buffers, asked.get()[0]);
+                    let half = half(inside, mapped);
+                    stats.half_down += (half == Some(Half::Down)) as u64;
+                    stats.half_up += (half == Some(Half::Up)) as u64;
                 }
                 let now = ranges_used(&core.buffers);
                 stats.ranges_gained += now.saturating_sub(ranges) as u64;
@@ -335,6 +372,8 @@ impl Stats {
             writeln!(output, "behind_{n}_refused {refused}")?;
         }
         writeln!(output, "ranges_replaced {}", self.replaced)?;
+        writeln!(output, "half_down {}", self.half_down)?;
+        writeln!(output, "half_up {}", self.half_up)?;
         writeln!(output, "map_blocks_most {}", self.most_blocks)?;
         writeln!(output, "map_pages_most {}", self.most_pages)?;
         writeln!(output, "ranges_most {}", self.most_ranges)?;

@@ -38,7 +38,8 @@ pub struct Unit {
     pub seen: u32,
 }
 
-/// How translate goes; the default is right, the rest are planted bugs.
+/// How translate and coverage go; the default is right, the rest are planted
+/// bugs.
 #[derive(Clone, Copy, PartialEq, Eq, Debug)]
 pub struct Rules {
     /// The most unseen records that are applied singly.
@@ -47,6 +48,8 @@ pub struct Rules {
     pub limit_covered: bool,
     /// A refused translation keeps its catching up.
     pub keep: bool,
+    /// An exact half of coverage always goes up.
+    pub half_up: bool,
 }
 
 impl Default for Rules {
@@ -55,6 +58,7 @@ impl Default for Rules {
             singly: LOG,
             limit_covered: false,
             keep: false,
+            half_up: false,
         }
     }
 }
@@ -68,6 +72,7 @@ impl Rules {
             "65" => rules.singly = LOG + 1,
             "limit" => rules.limit_covered = true,
             "keep" => rules.keep = true,
+            "half" => rules.half_up = true,
             _ => return None,
         }
         Some(rules)

@@ -65,6 +65,16 @@ fn empty_input() {
 }
 
 #[test]
+fn stats_count_halves() {
+    let calls = "setup 32\nopen 0\nmap 0 0 32 3\nprotect 0 31 1 1\ncoverage 0
+protect 0 29 2 1\ncoverage 0\ncoverage 0\n";
+    let records = good(&["encode"], calls.as_bytes());
+    let counts = String::from_utf8(good(&["stats"], &records)).unwrap();
+    assert!(counts.contains("\nhalf_down 2\n"));
+    assert!(counts.contains("\nhalf_up 1\n"));
+}
+
+#[test]
 fn wrong_use() {
     for args in [
         &["walk"][..],
@@ -81,10 +91,16 @@ fn wrong_use() {
 
 #[test]
 fn planted_bugs_turn_the_listing() {
-    let records = good(&["gen", "2", "4000", "sleep"], b"");
-    let right = good(&["run"], &records);
-    assert_eq!(reference(&["run"], Some(""), &records).stdout, right);
-    for bug in ["65", "limit", "keep"] {
+    let bugs = [
+        ("65", "sleep"),
+        ("limit", "sleep"),
+        ("keep", "sleep"),
+        ("half", "fragment"),
+    ];
+    for (bug, style) in bugs {
+        let records = good(&["gen", "2", "4000", style], b"");
+        let right = good(&["run"], &records);
+        assert_eq!(reference(&["run"], Some(""), &records).stdout, right);
         let wrong = reference(&["run"], Some(bug), &records);
         assert!(wrong.status.success());
         assert_ne!(wrong.stdout, right, "{bug}");

@@ -31,7 +31,7 @@ fn must_reach(style: &str) -> Vec<String> {
             "way_3",
         ],
         "sleep" => &["behind_63", "behind_64", "behind_65", "way_1", "way_2", "way_3"],
-        "fragment" => &["answer_0", "answer_14", "way_3"],
+        "fragment" => &["answer_0", "answer_14", "way_3", "half_down", "half_up"],
         "big" => &["answer_0", "way_2", "way_3"],
         "garbage" => &["answer_16"],
         _ => &[],

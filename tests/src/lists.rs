@@ -104,6 +104,61 @@ fn mapped_page(r: &mut Random, world: &World, space: u32) -> Option<u32> {
     (0..1024).map(|i| (from + i) % 1024).find(|p| world.pages[base + p] >= 65536).map(|p| p as u32)
 }
 
+/// Whether 10,000 × inside / mapped is an exact half, an odd number of halves: one more than a multiple of four has the even
+/// figure below it, three more have it above.
+fn half(inside: u32, mapped: u32) -> Option<&'static str> {
+    let (halves, rest) = (20_000 * inside / mapped, 20_000 * inside % mapped);
+    match halves % 4 {
+        1 if rest == 0 => Some("half_down"),
+        3 if rest == 0 => Some("half_up"),
+        _ => None,
+    }
+}
+
+/// Counts an accepted coverage that was an exact half, by the page words alone.
+fn note_half(world: &World, space: u32, seen: &mut Seen) {
+    let pages = &world.pages[1024 * space as usize..][..1024];
+    let mapped = pages.iter().filter(|w| **w != 0).count() as u32;
+    let inside = pages.iter().filter(|w| **w & 32768 != 0).count() as u32;
+    if let Some(what) = half(inside, mapped) {
+        seen.note(what.to_string());
+    }
+}
+
+/// Empties a space, brings its coverage to an exact half and asks for it: one span is mapped, and its end parted into pieces
+/// too short for a range by their rights. In a pool that is too full or broken up another coverage comes out.
+fn halve(second: &mut Second, world: &mut World, r: &mut Random, seen: &mut Seen) -> Result<(), String> {
+    let space = 1 + r.below(3) as u32;
+    let mut ask = |world: &mut World, kind: u32, [first, count, rights]: [u32; 3]| {
+        let arguments = [space, first, count, rights];
+        both(second, world, Call { kind, arguments })
+    };
+    ask(world, CLOSE, [0; 3])?;
+    ask(world, OPEN, [0; 3])?;
+    let free = world.frames.iter().filter(|w| **w == 8192 || (16384..=16394).contains(*w)).count() as u64;
+    // multiples of 32 pages have halves, others have none; 29 of 32 go down, 31 of 32 up
+    let mapped = 32 * (1 + r.below((free / 32).clamp(1, 32))) as u32;
+    let way = r.pick(&["half_down", "half_up"]);
+    let fitting: Vec<u32> = (8..mapped)
+        .filter(|inside| mapped - inside <= 96 && half(*inside, mapped) == Some(way))
+        .collect();
+    let inside = r.pick(&fitting);
+    let first = r.below(u64::from(1025 - mapped)) as u32;
+    let mut accepted = ask(world, MAP, [first, mapped, 3])?.number == 0;
+    let (mut left, mut rights) = (mapped - inside, 1);
+    while accepted && left > 0 {
+        let count = left.min(1 + r.below(7) as u32);
+        left -= count;
+        accepted = ask(world, PROTECT, [first + inside + left, count, rights])?.number == 0;
+        // neighbours differ from one another and from the span
+        rights = 8 - rights;
+    }
+    if ask(world, COVERAGE, [0; 3])?.number == 0 {
+        note_half(world, space, seen);
+    }
+    Ok(())
+}
+
 /// A list from set up pool on, with two units.
 fn list(second: &mut Second, seed: u64, seen: &mut Seen) -> Result<(), String> {
     let mut r = Random::new(seed);
@@ -133,7 +188,12 @@ fn list(second: &mut Second, seed: u64, seen: &mut Seen) -> Result<(), String> {
     both(second, &mut world, Call { kind: OPEN, arguments: [0; 4] })?;
     // one in four lists lets a unit sleep through many removals
     let sleep = seed % 4 == 0;
+    // another brings coverage to exact halves
+    let halves = seed % 4 == 2;
     for turn in 0..160 {
+        if halves && turn % 40 == 30 {
+            halve(second, &mut world, &mut r, seen).map_err(|e| format!("half before call {turn}: {e}"))?;
+        }
         let mut call = some_call(&mut r, &world);
         if sleep && turn % 40 == 20 {
             for _ in 0..r.pick(&[63, 64, 65]) {
@@ -173,6 +233,9 @@ fn list(second: &mut Second, seed: u64, seen: &mut Seen) -> Result<(), String> {
                 seen.note(format!("behind_{behind}"));
             }
         }
+        if call.kind == COVERAGE && answer.number == 0 {
+            note_half(&world, call.arguments[0], seen);
+        }
     }
     Ok(())
 }
@@ -206,6 +269,8 @@ pub fn compare(lists: u64, first: u64) -> bool {
         "behind_63",
         "behind_64",
         "behind_65",
+        "half_down",
+        "half_up",
     ];
     let must: Vec<String> = must.iter().map(|w| w.to_string()).collect();
     seen.report(if lists >= 100 { &must } else { &[] })

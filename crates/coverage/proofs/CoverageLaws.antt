@@ -2,9 +2,9 @@
 use mathlib.Core.Path.{_≡_, refl, ap, _∙_}
 use mathlib.Core.Bool.{Bool, true, _&&_}
 use mathlib.Core.List.{List}
-use Prim.Native.Nat.{ℕ, zero, suc, _+_, _-_, _*_, _<_, _≤_}
+use Prim.Native.Nat.{ℕ, zero, suc, _+_, _-_, _*_, _/_, _%_, _<_, _≤_}
 use native.Mathlib.Numerals.{add-one}
-use native.Mathlib.Nat.{not-suc-le-zero}
+use native.Mathlib.Nat.{not-suc-le-zero, mul-le-mul-left, div-add-mod', mod-lt}
 use native.Mathlib.Decide.{ℕ-discrete}
 use native.Mathlib.Omega.{arith}
 use lib.ListN.{getD, take, drop}
@@ -57,6 +57,15 @@ count-at (suc n) p k h t =
 
 pub some-counted : (n : ℕ) (p : ℕ → Bool) → anyFrom n 0 p ≡ true → 1 ≤ count n p
 some-counted n p t = let k = any-at n 0 p t in count-at n p (k .0) (omega (arith, k .2)) (k .3)
+
+-- where the remainder is half of m or more, m is not 1, and the next quotient is no larger than what is divided
+
+pub room-above : (a m : ℕ) → 0 < m → m ≤ 2 * (a % m) → a / m + 1 ≤ a
+room-above a m pos h =
+    let l = mod-lt a pos in
+    let d = div-add-mod' a m in
+    let t : a / m * 1 ≤ a / m * m = mul-le-mul-left (a / m) pos in
+    omega arith
 
 -- the space's part of the page buffer as it is lent
 

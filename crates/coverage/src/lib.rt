@@ -1,6 +1,7 @@
 // The call coverage: how much of a space's mapped pages lies in ranges. It judges what it is lent and writes nothing.
 ghost use mathlib.Core.Path.{_≡_};
 ghost use mathlib.Core.Bool.{true, _&&_};
+ghost use Prim.Native.Nat.{_<_};
 ghost use lib.ListN.{length};
 ghost use Rattle.runs.specs.PageWords.{pagesInSpace, mapped, rangeBit};
 ghost use Rattle.words.specs.Counts.{count, one-if};
@@ -9,7 +10,7 @@ ghost use Rattle.words.specs.Rows.{refusal, numberOf};
 ghost use Rattle.layout.specs.declared.TableCall.the-variants.{Coverage};
 ghost use Rattle.layout.specs.Answers.{outcome};
 ghost use Rattle.layout.specs.Tables.{tables};
-ghost use Rattle.layout.specs.Calls.{row, Called, coverageFigure};
+ghost use Rattle.layout.specs.Calls.{row, Called, nearestWhole, coverageFigure};
 ghost use Rattle.tablecheck.specs.Inner.{pageMapped};
 ghost use Rattle.coverage.specs.Inner.{pageInRange};
 use layout::Answer;
@@ -21,6 +22,9 @@ use refusals::outcome;
 use runs::PAGE_WORDS;
 use runs::PAGES;
 use tablecheck::any_mapped;
+
+// The figure where every mapped page lies in a range.
+const FULL_COVERAGE: u32 = 10000;
 
 // The first refusal that applies, or Done with zeros.
 fn judge_coverage(
@@ -85,17 +89,34 @@ fn count_pages(part: &[u32]) -> Counted
     }
 }
 
-// The pages in ranges in parts of 10,000 of the mapped pages, rounded down.
+// The whole number nearest to a / m, an exact half to the even one. What a lies past a multiple of m is compared with what it lacks to the next, so nothing is doubled.
+fn nearest_whole(a: u32, m: u32) -> u32
+    requires { ⌜ 0 < m ⌝ }
+    ensures { λ r. ⌜ r ≡ nearestWhole a m ⌝ }
+{
+    let q = a / m;
+    let past = a % m;
+    let lacking = m - past;
+    if past < lacking {
+        return q;
+    }
+    if lacking < past {
+        return q + 1;
+    }
+    q + q % 2
+}
+
+// The pages in ranges in parts of 10,000 of the mapped pages, to the nearest whole figure.
 fn figure(part: &[u32]) -> u32
     requires { ⌜ length (now part) ≡ pagesInSpace ⌝ }
     requires { ⌜ anyFrom pagesInSpace 0 (pageMapped (now part)) ≡ true ⌝ }
     ensures { λ r. ⌜ r ≡ coverageFigure (count pagesInSpace (pageInRange (now (part .entry)))) (count pagesInSpace (pageMapped (now (part .entry)))) ⌝ }
 {
     let pages = count_pages(part);
-    10000 * pages.within / pages.mapped
+    nearest_whole(FULL_COVERAGE * pages.within, pages.mapped)
 }
 
-// Of a space's mapped pages, how many in 10,000 lie in ranges. Refused: 1, 2, 5, 10, 12.
+// Of a space's mapped pages, how many in 10,000 lie in ranges, to the nearest whole figure. Refused: 1, 2, 5, 10, 12.
 pub fn coverage(
     control: &[u32],
     frames: &[u32],

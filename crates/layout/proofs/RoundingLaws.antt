@@ -1,0 +1,77 @@
+-- Quotients to the nearest whole number, an exact half to the even one: that `nearestWhole` is one, and that there is no other.
+use mathlib.Core.Path.{_≡_, refl, ap, _∙_}
+use mathlib.Core.Bool.{Bool, true, false}
+use Prim.Native.Nat.{ℕ, _+_, _-_, _*_, _/_, _%_, _<_, _≤_}
+use native.Mathlib.Nat.{div-add-mod', mod-lt, mul-le-mul-right, add-mul, one-mul}
+use native.Mathlib.Decide.{decLe, ℕ-discrete}
+use native.Mathlib.Omega.{arith}
+use lib.Dec.{ltb}
+use borrow.Author.Tests.{ltb-true, ltb-false}
+use Rattle.words.proofs.Cases.{by-test, by-dec}
+use Rattle.layout.specs.Calls.{nearestWhole, fullCoverage, coverageFigure}
+use Rattle.layout.specs.Statements.{distance, Rounded, CoverageRounded}
+
+next-multiple : (q m : ℕ) → (q + 1) * m ≡ q * m + m
+next-multiple q m = add-mul q 1 m ∙ ap (λ (x : ℕ). q * m + x) (one-mul m)
+
+-- two whole numbers that are equally near lie one apart, and one of them is odd
+apart : (a m p q : ℕ) → 0 < m → p < q → Rounded a m p → Rounded a m q → ⊥
+unfolding distance
+apart a m p q pos h x y =
+    let n = next-multiple p m in
+    let far : (p + 1) * m ≤ q * m = mul-le-mul-right m (omega arith) in
+    let xn = x .nearest in
+    let yn = y .nearest in
+    let ep : p % 2 ≡ 0 = x .half-to-even (omega arith) in
+    let eq : q % 2 ≡ 0 = y .half-to-even (omega arith) in
+    let further : (p + 1 + 1) * m ≤ q * m = mul-le-mul-right m (omega arith) in
+    let nn = next-multiple (p + 1) m in
+    omega arith
+
+one-rounded : (a m p q : ℕ) → 0 < m → Rounded a m p → Rounded a m q → p ≡ q
+one-rounded a m p q pos x y =
+    by-dec (decLe (p + 1) q)
+    (λ h. absurd (apart a m p q pos (omega arith) x y))
+    (λ n. by-dec (decLe (q + 1) p) (λ h. absurd (apart a m q p pos (omega arith) y x)) (λ k. omega arith))
+
+module _ (a m : ℕ) (pos : 0 < m) where
+  -- the two whole numbers beside the fraction, each where it is the one
+  pub lower-rounded : 2 * (a % m) ≤ m → (2 * (a % m) ≡ m → a / m % 2 ≡ 0) → Rounded a m (a / m)
+  unfolding distance
+  lower-rounded h e =
+      let d = div-add-mod' a m in
+      record { nearest = omega arith; half-to-even = λ t. e (omega arith) }
+
+  pub upper-rounded : m ≤ 2 * (a % m) → (2 * (a % m) ≡ m → (a / m + 1) % 2 ≡ 0) → Rounded a m (a / m + 1)
+  unfolding distance
+  upper-rounded h e =
+      let d = div-add-mod' a m in
+      let l = mod-lt a pos in
+      let n = next-multiple (a / m) m in
+      record { nearest = omega arith; half-to-even = λ t. e (omega arith) }
+
+  -- at an exact half, the even one of both
+  pub half-rounded : 2 * (a % m) ≡ m → Rounded a m (a / m + a / m % 2)
+  half-rounded h =
+      by-dec (ℕ-discrete (a / m % 2) 0)
+      (λ e. let same : a / m + a / m % 2 ≡ a / m = omega arith in rw same (lower-rounded (omega arith) (λ t. e)))
+      (λ n. let next : a / m + a / m % 2 ≡ a / m + 1 = omega arith in rw next (upper-rounded (omega arith) (λ t. omega arith)))
+
+  nearest-rounded : Rounded a m (nearestWhole a m)
+  unfolding nearestWhole
+  nearest-rounded =
+      let l = mod-lt a pos in
+      by-test (ltb (a % m) (m - a % m))
+      (λ t. let lt : a % m < m - a % m = ltb-true _ _ t in rw (t, nearestWhole) (lower-rounded (omega arith) (λ e. absurd (omega arith))))
+      (λ f.
+      let ge : m - a % m ≤ a % m = ltb-false _ _ f in
+      by-test (ltb (m - a % m) (a % m))
+      (λ t. let gt : m - a % m < a % m = ltb-true _ _ t in rw (f, t, nearestWhole) (upper-rounded (omega arith) (λ e. absurd (omega arith))))
+      (λ g. let le : a % m ≤ m - a % m = ltb-false _ _ g in rw (f, g, nearestWhole) (half-rounded (omega arith))))
+
+  pub rounded-nearest : (q : ℕ) → Rounded a m q → q ≡ nearestWhole a m
+  rounded-nearest q x = one-rounded a m q (nearestWhole a m) pos x nearest-rounded
+
+pub coverage-rounded : CoverageRounded
+unfolding CoverageRounded coverageFigure
+coverage-rounded r m pos = (nearest-rounded (fullCoverage * r) m pos, rounded-nearest (fullCoverage * r) m pos)
