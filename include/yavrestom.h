@@ -111,7 +111,7 @@ uint32_t yavrestom_translate(uint32_t *unit, size_t unit_words, const uint32_t *
                              uint32_t space, uint32_t page, uint32_t access, uint32_t *values, size_t values_words);
 
 /* Of a space's mapped pages, how many in 10,000 lie in ranges, to the nearest whole figure, an exact half to the even
- * one: 9 of 32 pages are 2812, 11 of 32 are 3438. Values: that figure, 0. Refused: 1, 2, 5, 10, 12. */
+ * one: 9 of 32 pages give 2812, 11 of 32 give 3438. Values: that figure, 0. Refused: 1, 2, 5, 10, 12. */
 uint32_t yavrestom_coverage(const uint32_t *control, size_t control_words, const uint32_t *frames, size_t frames_words,
                             const uint32_t *pages, size_t pages_words, const uint32_t *ranges, size_t ranges_words,
                             uint32_t space, uint32_t *values, size_t values_words);

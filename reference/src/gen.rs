@@ -605,7 +605,7 @@ impl<W: Write> Maker<'_, W> {
             self.call(OPEN, &[1])?;
             for _ in 0..self.random.among(1, 4) {
                 if self.random.one_in(2) {
-                    self.halve()?;
+                    self.reach_half()?;
                 }
                 self.fill_pool()?;
                 self.break_up()?;
@@ -638,7 +638,7 @@ impl<W: Write> Maker<'_, W> {
 
     /// Empties a space, brings its coverage to an exact half and asks for it.
     /// Where frames are lacking or lie scattered, another coverage comes out.
-    fn halve(&mut self) -> Step<bool> {
+    fn reach_half(&mut self) -> Step<()> {
         let space = self.random.among(0, 3);
         if self.core.buffers.is_open(space as u32) {
             self.call(CLOSE, &[space])?;
@@ -656,13 +656,14 @@ impl<W: Write> Maker<'_, W> {
             .filter(|&inside| half(inside as u32, mapped as u32) == Some(way))
             .collect();
         let inside = self.random.pick(&fitting);
-        // Single pages would need the most gaps.
+        // At worst every piece is a single page and needs a gap.
         let gaps_fit = mapped + (mapped - inside) <= 1024;
         match gaps_fit && self.random.one_in(2) {
             true => self.spans_apart(space, inside, mapped)?,
             false => self.end_in_pieces(space, inside, mapped)?,
         }
-        self.call(COVERAGE, &[space])
+        self.call(COVERAGE, &[space])?;
+        Ok(())
     }
 
     /// Maps a long span, and short ones apart from it and from one another.
@@ -681,7 +682,7 @@ impl<W: Write> Maker<'_, W> {
         Ok(())
     }
 
-    /// Maps one span and parts its end into short pieces by their rights.
+    /// Maps one span and splits its end by rights into short pieces.
     fn end_in_pieces(&mut self, space: u16, inside: u16, mapped: u16) -> Step<()> {
         let first = self.random.among(0, 1024 - mapped);
         let mut done = self.call(MAP, &[space, first, mapped, 3])?;

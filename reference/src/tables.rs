@@ -311,7 +311,7 @@ pub fn figure(inside: u32, mapped: u32, rules: &Rules) -> u32 {
     let (whole, rest) = (10_000 * inside / mapped, 10_000 * inside % mapped);
     let next = match (2 * rest).cmp(&mapped) {
         Ordering::Less => false,
-        Ordering::Equal => rules.half_up || whole % 2 == 1,
+        Ordering::Equal => rules.halves_up || whole % 2 == 1,
         Ordering::Greater => true,
     };
     whole + next as u32

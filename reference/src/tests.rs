@@ -317,7 +317,7 @@ const ELEVEN_OF_39: &str = "
 
 /// Pages in ranges and mapped pages of space 0 after a text's calls, by the range
 /// table and the frames that are held.
-fn of_pages(lines: &str) -> (u32, u32) {
+fn in_ranges_and_mapped(lines: &str) -> (u32, u32) {
     let b = core_after(lines).buffers;
     let inside = b.space_ranges(0).chunks(4).map(|r| r[1] - r[0]).sum();
     let mapped = b.frames.iter().filter(|&&w| is_held(w)).count() as u32;
@@ -326,26 +326,26 @@ fn of_pages(lines: &str) -> (u32, u32) {
 
 #[test]
 fn halves_go_to_the_even_figure() {
-    assert_eq!(of_pages(NINE_OF_32), (9, 32));
+    assert_eq!(in_ranges_and_mapped(NINE_OF_32), (9, 32));
     assert_eq!(last_answer(NINE_OF_32), "8 0 2812 0");
-    assert_eq!(of_pages(ELEVEN_OF_32), (11, 32));
+    assert_eq!(in_ranges_and_mapped(ELEVEN_OF_32), (11, 32));
     assert_eq!(last_answer(ELEVEN_OF_32), "8 0 3438 0");
-    assert_eq!(of_pages(LISTING_CALLS), (8, 10));
+    assert_eq!(in_ranges_and_mapped(LISTING_CALLS), (8, 10));
     assert_eq!(last_answer(LISTING_CALLS), "8 0 8000 0");
 }
 
 #[test]
 fn beside_a_half_the_nearest_figure() {
     // 7179.48.. and 2820.51..: the even neighbours are the farther ones.
-    assert_eq!(of_pages(TWENTY_EIGHT_OF_39), (28, 39));
+    assert_eq!(in_ranges_and_mapped(TWENTY_EIGHT_OF_39), (28, 39));
     assert_eq!(last_answer(TWENTY_EIGHT_OF_39), "8 0 7179 0");
-    assert_eq!(of_pages(ELEVEN_OF_39), (11, 39));
+    assert_eq!(in_ranges_and_mapped(ELEVEN_OF_39), (11, 39));
     assert_eq!(last_answer(ELEVEN_OF_39), "8 0 2821 0");
     // 8543.4995.. and 1456.5004.., as near as coverage comes to a half.
     let rules = Rules::default();
     assert_eq!(figure(874, 1023, &rules), 8543);
     assert_eq!(figure(149, 1023, &rules), 1457);
-    // Of a figure's 2 × mapped parts, one fewer than half or one more.
+    // In parts of 1 / (2 × mapped) a half is `mapped` of them: one fewer, one more.
     let mut beside = 0;
     for mapped in 1..=1024 {
         for inside in 0..=mapped {

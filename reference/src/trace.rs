@@ -230,9 +230,8 @@ pub enum Half {
     Up,
 }
 
-/// The exact half that 10,000 × inside / mapped is, if it is one: an odd number
-/// of halves. One more than a multiple of four has the even figure below it,
-/// three more have it above.
+/// Where 10,000 × inside / mapped goes if it is an exact half, that is an odd
+/// number of halves: 1 modulo 4 goes down, 3 modulo 4 goes up.
 pub fn half(inside: u32, mapped: u32) -> Option<Half> {
     let (halves, rest) = (20_000 * inside / mapped, 20_000 * inside % mapped);
     match halves % 4 {

@@ -49,7 +49,7 @@ pub struct Rules {
     /// A refused translation keeps its catching up.
     pub keep: bool,
     /// An exact half of coverage always goes up.
-    pub half_up: bool,
+    pub halves_up: bool,
 }
 
 impl Default for Rules {
@@ -58,7 +58,7 @@ impl Default for Rules {
             singly: LOG,
             limit_covered: false,
             keep: false,
-            half_up: false,
+            halves_up: false,
         }
     }
 }
@@ -72,7 +72,7 @@ impl Rules {
             "65" => rules.singly = LOG + 1,
             "limit" => rules.limit_covered = true,
             "keep" => rules.keep = true,
-            "half" => rules.half_up = true,
+            "half" => rules.halves_up = true,
             _ => return None,
         }
         Some(rules)

@@ -104,8 +104,8 @@ fn mapped_page(r: &mut Random, world: &World, space: u32) -> Option<u32> {
     (0..1024).map(|i| (from + i) % 1024).find(|p| world.pages[base + p] >= 65536).map(|p| p as u32)
 }
 
-/// Whether 10,000 × inside / mapped is an exact half, an odd number of halves: one more than a multiple of four has the even
-/// figure below it, three more have it above.
+/// Where 10,000 × inside / mapped goes if it is an exact half, that is an odd number of halves: 1 modulo 4 goes down, 3 modulo 4
+/// goes up.
 fn half(inside: u32, mapped: u32) -> Option<&'static str> {
     let (halves, rest) = (20_000 * inside / mapped, 20_000 * inside % mapped);
     match halves % 4 {
@@ -125,9 +125,9 @@ fn note_half(world: &World, space: u32, seen: &mut Seen) {
     }
 }
 
-/// Empties a space, brings its coverage to an exact half and asks for it: one span is mapped, and its end parted into pieces
-/// too short for a range by their rights. In a pool that is too full or broken up another coverage comes out.
-fn halve(second: &mut Second, world: &mut World, r: &mut Random, seen: &mut Seen) -> Result<(), String> {
+/// Empties a space, brings its coverage to an exact half and asks for it: one span is mapped, and its end split by rights into
+/// pieces too short for a range. In a pool that is too full or broken up another coverage comes out.
+fn reach_half(second: &mut Second, world: &mut World, r: &mut Random, seen: &mut Seen) -> Result<(), String> {
     let space = 1 + r.below(3) as u32;
     let mut ask = |world: &mut World, kind: u32, [first, count, rights]: [u32; 3]| {
         let arguments = [space, first, count, rights];
@@ -136,9 +136,10 @@ fn halve(second: &mut Second, world: &mut World, r: &mut Random, seen: &mut Seen
     ask(world, CLOSE, [0; 3])?;
     ask(world, OPEN, [0; 3])?;
     let free = world.frames.iter().filter(|w| **w == 8192 || (16384..=16394).contains(*w)).count() as u64;
-    // multiples of 32 pages have halves, others have none; 29 of 32 go down, 31 of 32 up
+    // multiples of 32 pages have halves, others have none
     let mapped = 32 * (1 + r.below((free / 32).clamp(1, 32))) as u32;
     let way = r.pick(&["half_down", "half_up"]);
+    // 29 of 32 go down, 31 of 32 up, so at most 3 in 32 pages need lie outside: 96 of 1,024
     let fitting: Vec<u32> = (8..mapped)
         .filter(|inside| mapped - inside <= 96 && half(*inside, mapped) == Some(way))
         .collect();
@@ -192,7 +193,7 @@ fn list(second: &mut Second, seed: u64, seen: &mut Seen) -> Result<(), String> {
     let halves = seed % 4 == 2;
     for turn in 0..160 {
         if halves && turn % 40 == 30 {
-            halve(second, &mut world, &mut r, seen).map_err(|e| format!("half before call {turn}: {e}"))?;
+            reach_half(second, &mut world, &mut r, seen).map_err(|e| format!("half before call {turn}: {e}"))?;
         }
         let mut call = some_call(&mut r, &world);
         if sleep && turn % 40 == 20 {

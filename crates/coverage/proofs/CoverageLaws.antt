@@ -1,4 +1,4 @@
--- Counts of a space's pages, and what coverage promises.
+-- Counts of a space's pages, room for the next quotient, and what coverage promises.
 use mathlib.Core.Path.{_≡_, refl, ap, _∙_}
 use mathlib.Core.Bool.{Bool, true, _&&_}
 use mathlib.Core.List.{List}
@@ -58,7 +58,7 @@ count-at (suc n) p k h t =
 pub some-counted : (n : ℕ) (p : ℕ → Bool) → anyFrom n 0 p ≡ true → 1 ≤ count n p
 some-counted n p t = let k = any-at n 0 p t in count-at n p (k .0) (omega (arith, k .2)) (k .3)
 
--- where the remainder is half of m or more, m is not 1, and the next quotient is no larger than what is divided
+-- the next quotient is no larger than what is divided where the remainder is half of m or more, for m is then at least 2
 
 pub room-above : (a m : ℕ) → 0 < m → m ≤ 2 * (a % m) → a / m + 1 ≤ a
 room-above a m pos h =

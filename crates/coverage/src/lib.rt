@@ -89,7 +89,7 @@ fn count_pages(part: &[u32]) -> Counted
     }
 }
 
-// The whole number nearest to a / m, an exact half to the even one. What a lies past a multiple of m is compared with what it lacks to the next, so nothing is doubled.
+// The whole number nearest to a / m, an exact half to the even one. The remainder is compared with what is lacking to the next multiple, since twice the remainder could overflow.
 fn nearest_whole(a: u32, m: u32) -> u32
     requires { ⌜ 0 < m ⌝ }
     ensures { λ r. ⌜ r ≡ nearestWhole a m ⌝ }
@@ -106,7 +106,7 @@ fn nearest_whole(a: u32, m: u32) -> u32
     q + q % 2
 }
 
-// The pages in ranges in parts of 10,000 of the mapped pages, to the nearest whole figure.
+// The pages in ranges in parts of 10,000 of the mapped pages, to the nearest whole figure, an exact half to the even one.
 fn figure(part: &[u32]) -> u32
     requires { ⌜ length (now part) ≡ pagesInSpace ⌝ }
     requires { ⌜ anyFrom pagesInSpace 0 (pageMapped (now part)) ≡ true ⌝ }
@@ -116,7 +116,7 @@ fn figure(part: &[u32]) -> u32
     nearest_whole(FULL_COVERAGE * pages.within, pages.mapped)
 }
 
-// Of a space's mapped pages, how many in 10,000 lie in ranges, to the nearest whole figure. Refused: 1, 2, 5, 10, 12.
+// Of a space's mapped pages, how many in 10,000 lie in ranges, to the nearest whole figure, an exact half to the even one. Refused: 1, 2, 5, 10, 12.
 pub fn coverage(
     control: &[u32],
     frames: &[u32],

@@ -1,6 +1,5 @@
--- Quotients to the nearest whole number, an exact half to the even one: that `nearestWhole` is one, and that there is no other.
-use mathlib.Core.Path.{_≡_, refl, ap, _∙_}
-use mathlib.Core.Bool.{Bool, true, false}
+-- Fractions to the nearest whole number, an exact half to the even one: `nearestWhole` is the one so rounded, and no other number is.
+use mathlib.Core.Path.{_≡_, ap, _∙_}
 use Prim.Native.Nat.{ℕ, _+_, _-_, _*_, _/_, _%_, _<_, _≤_}
 use native.Mathlib.Nat.{div-add-mod', mod-lt, mul-le-mul-right, add-mul, one-mul}
 use native.Mathlib.Decide.{decLe, ℕ-discrete}
@@ -14,10 +13,10 @@ use Rattle.layout.specs.Statements.{distance, Rounded, CoverageRounded}
 next-multiple : (q m : ℕ) → (q + 1) * m ≡ q * m + m
 next-multiple q m = add-mul q 1 m ∙ ap (λ (x : ℕ). q * m + x) (one-mul m)
 
--- two whole numbers that are equally near lie one apart, and one of them is odd
-apart : (a m p q : ℕ) → 0 < m → p < q → Rounded a m p → Rounded a m q → ⊥
+-- no two numbers are both rounded: each would be exactly one half away, so they would be one apart, and one of them odd
+no-two-rounded : (a m p q : ℕ) → 0 < m → p < q → Rounded a m p → Rounded a m q → ⊥
 unfolding distance
-apart a m p q pos h x y =
+no-two-rounded a m p q pos h x y =
     let n = next-multiple p m in
     let far : (p + 1) * m ≤ q * m = mul-le-mul-right m (omega arith) in
     let xn = x .nearest in
@@ -31,11 +30,11 @@ apart a m p q pos h x y =
 one-rounded : (a m p q : ℕ) → 0 < m → Rounded a m p → Rounded a m q → p ≡ q
 one-rounded a m p q pos x y =
     by-dec (decLe (p + 1) q)
-    (λ h. absurd (apart a m p q pos (omega arith) x y))
-    (λ n. by-dec (decLe (q + 1) p) (λ h. absurd (apart a m q p pos (omega arith) y x)) (λ k. omega arith))
+    (λ h. absurd (no-two-rounded a m p q pos (omega arith) x y))
+    (λ n. by-dec (decLe (q + 1) p) (λ h. absurd (no-two-rounded a m q p pos (omega arith) y x)) (λ k. omega arith))
 
 module _ (a m : ℕ) (pos : 0 < m) where
-  -- the two whole numbers beside the fraction, each where it is the one
+  -- a / m and a / m + 1, each where it is the rounded one
   pub lower-rounded : 2 * (a % m) ≤ m → (2 * (a % m) ≡ m → a / m % 2 ≡ 0) → Rounded a m (a / m)
   unfolding distance
   lower-rounded h e =
@@ -50,7 +49,7 @@ module _ (a m : ℕ) (pos : 0 < m) where
       let n = next-multiple (a / m) m in
       record { nearest = omega arith; half-to-even = λ t. e (omega arith) }
 
-  -- at an exact half, the even one of both
+  -- at an exact half, the even one of the two
   pub half-rounded : 2 * (a % m) ≡ m → Rounded a m (a / m + a / m % 2)
   half-rounded h =
       by-dec (ℕ-discrete (a / m % 2) 0)
@@ -69,9 +68,9 @@ module _ (a m : ℕ) (pos : 0 < m) where
       (λ t. let gt : m - a % m < a % m = ltb-true _ _ t in rw (f, t, nearestWhole) (upper-rounded (omega arith) (λ e. absurd (omega arith))))
       (λ g. let le : a % m ≤ m - a % m = ltb-false _ _ g in rw (f, g, nearestWhole) (half-rounded (omega arith))))
 
-  pub rounded-nearest : (q : ℕ) → Rounded a m q → q ≡ nearestWhole a m
-  rounded-nearest q x = one-rounded a m q (nearestWhole a m) pos x nearest-rounded
+  pub only-nearest : (q : ℕ) → Rounded a m q → q ≡ nearestWhole a m
+  only-nearest q x = one-rounded a m q (nearestWhole a m) pos x nearest-rounded
 
 pub coverage-rounded : CoverageRounded
 unfolding CoverageRounded coverageFigure
-coverage-rounded r m pos = (nearest-rounded (fullCoverage * r) m pos, rounded-nearest (fullCoverage * r) m pos)
+coverage-rounded r m pos = (nearest-rounded (fullCoverage * r) m pos, only-nearest (fullCoverage * r) m pos)
