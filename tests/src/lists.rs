@@ -115,9 +115,12 @@ fn half(inside: u32, mapped: u32) -> Option<&'static str> {
     }
 }
 
-/// Counts an accepted coverage that was an exact half, by the page words alone.
-fn note_half(world: &World, space: u32, seen: &mut Seen) {
-    let pages = &world.pages[1024 * space as usize..][..1024];
+/// Counts an accepted coverage that is an exact half, by the page words alone.
+pub fn note_half(world: &World, call: Call, answer: Answer, seen: &mut Seen) {
+    if call.kind != COVERAGE || answer.number != 0 {
+        return;
+    }
+    let pages = &world.pages[1024 * call.arguments[0] as usize..][..1024];
     let mapped = pages.iter().filter(|w| **w != 0).count() as u32;
     let inside = pages.iter().filter(|w| **w & 32768 != 0).count() as u32;
     if let Some(what) = half(inside, mapped) {
@@ -125,19 +128,14 @@ fn note_half(world: &World, space: u32, seen: &mut Seen) {
     }
 }
 
-/// Empties a space, brings its coverage to an exact half and asks for it: one span is mapped, and its end split by rights into
-/// pieces too short for a range. In a pool that is too full or broken up another coverage comes out.
-fn reach_half(second: &mut Second, world: &mut World, r: &mut Random, seen: &mut Seen) -> Result<(), String> {
+/// Calls that empty a space, bring its coverage to an exact half and ask for it: one span is mapped, and its end split by rights
+/// into pieces too short for a range. In a pool that is too full or broken up another coverage comes out.
+pub fn calls_to_half(r: &mut Random, world: &World) -> Vec<Call> {
     let space = 1 + r.below(3) as u32;
-    let mut ask = |world: &mut World, kind: u32, [first, count, rights]: [u32; 3]| {
-        let arguments = [space, first, count, rights];
-        both(second, world, Call { kind, arguments })
-    };
-    ask(world, CLOSE, [0; 3])?;
-    ask(world, OPEN, [0; 3])?;
-    let free = world.frames.iter().filter(|w| **w == 8192 || (16384..=16394).contains(*w)).count() as u64;
+    let own = world.pages[1024 * space as usize..][..1024].iter().filter(|w| **w != 0).count();
+    let free = world.frames.iter().filter(|w| **w == 8192 || (16384..=16394).contains(*w)).count();
     // multiples of 32 pages have halves, others have none
-    let mapped = 32 * (1 + r.below((free / 32).clamp(1, 32))) as u32;
+    let mapped = 32 * (1 + r.below(((own + free) as u64 / 32).clamp(1, 32))) as u32;
     let way = r.pick(&["half_down", "half_up"]);
     // 29 of 32 go down, 31 of 32 up, so at most 3 in 32 pages need lie outside: 96 of 1,024
     let fitting: Vec<u32> = (8..mapped)
@@ -145,19 +143,21 @@ fn reach_half(second: &mut Second, world: &mut World, r: &mut Random, seen: &mut
         .collect();
     let inside = r.pick(&fitting);
     let first = r.below(u64::from(1025 - mapped)) as u32;
-    let mut accepted = ask(world, MAP, [first, mapped, 3])?.number == 0;
+    let mut calls = vec![(CLOSE, [0; 3]), (OPEN, [0; 3]), (MAP, [first, mapped, 3])];
     let (mut left, mut rights) = (mapped - inside, 1);
-    while accepted && left > 0 {
+    while left > 0 {
         let count = left.min(1 + r.below(7) as u32);
         left -= count;
-        accepted = ask(world, PROTECT, [first + inside + left, count, rights])?.number == 0;
+        calls.push((PROTECT, [first + inside + left, count, rights]));
         // neighbours differ from one another and from the span
         rights = 8 - rights;
     }
-    if ask(world, COVERAGE, [0; 3])?.number == 0 {
-        note_half(world, space, seen);
-    }
-    Ok(())
+    calls.push((COVERAGE, [0; 3]));
+    let of_space = |(kind, [a, b, c]): (u32, [u32; 3])| Call {
+        kind,
+        arguments: [space, a, b, c],
+    };
+    calls.into_iter().map(of_space).collect()
 }
 
 /// A list from set up pool on, with two units.
@@ -193,7 +193,10 @@ fn list(second: &mut Second, seed: u64, seen: &mut Seen) -> Result<(), String> {
     let halves = seed % 4 == 2;
     for turn in 0..160 {
         if halves && turn % 40 == 30 {
-            reach_half(second, &mut world, &mut r, seen).map_err(|e| format!("half before call {turn}: {e}"))?;
+            for call in calls_to_half(&mut r, &world) {
+                let answer = both(second, &mut world, call).map_err(|e| format!("before call {turn}: {e}"))?;
+                note_half(&world, call, answer, seen);
+            }
         }
         let mut call = some_call(&mut r, &world);
         if sleep && turn % 40 == 20 {
@@ -234,9 +237,7 @@ fn list(second: &mut Second, seed: u64, seen: &mut Seen) -> Result<(), String> {
                 seen.note(format!("behind_{behind}"));
             }
         }
-        if call.kind == COVERAGE && answer.number == 0 {
-            note_half(&world, call.arguments[0], seen);
-        }
+        note_half(&world, call, answer, seen);
     }
     Ok(())
 }

@@ -1,6 +1,6 @@
 //! Damaged and foreign inputs: the proved calls and the second program answer and leave the same.
 use crate::kernel::*;
-use crate::lists::{both, some_call, Seen};
+use crate::lists::{both, calls_to_half, note_half, some_call, Seen};
 use crate::random::Random;
 use crate::second::Second;
 
@@ -24,6 +24,12 @@ fn state(r: &mut Random) -> World {
     for _ in 0..40 {
         let call = some_call(r, &world);
         if call.kind != SET_UP_POOL && call.kind != SET_UP_UNIT {
+            world.call(call);
+        }
+    }
+    // half of the states have a space at an exact half
+    if r.one_in(2) {
+        for call in calls_to_half(r, &world) {
             world.call(call);
         }
     }
@@ -221,6 +227,7 @@ pub fn compare(inputs: u64, first: u64) -> bool {
             Ok(answer) => {
                 seen.note(what);
                 seen.note(format!("answer_{}", answer.number));
+                note_half(&world, call, answer, &mut seen);
                 if call.kind == TRANSLATE && answer.number == 0 {
                     seen.note(format!("way_{}", answer.second));
                 }
@@ -250,5 +257,6 @@ pub fn compare(inputs: u64, first: u64) -> bool {
     must.extend(["foreign_page_entry", "foreign_range_entry"].map(String::from));
     must.extend([0, 1, 2, 3, 12, 13, 15].map(|n| format!("answer_{n}")));
     must.extend([1, 2, 3].map(|n| format!("way_{n}")));
+    must.extend(["half_down", "half_up"].map(String::from));
     seen.report(if inputs >= 10_000 { &must } else { &[] })
 }
