@@ -34,39 +34,31 @@ one-rounded a m p q pos x y =
     (λ n. by-dec (decLe (q + 1) p) (λ h. absurd (no-two-rounded a m q p pos (omega arith) y x)) (λ k. omega arith))
 
 module _ (a m : ℕ) (pos : 0 < m) where
-  -- a / m and a / m + 1, each where it is the rounded one
-  pub lower-rounded : 2 * (a % m) ≤ m → (2 * (a % m) ≡ m → a / m % 2 ≡ 0) → Rounded a m (a / m)
+  -- a / m or a / m + 1, where it is no further than the other, and even where both are as far
+  pub beside-rounded : (q : ℕ) → a / m ≤ q → q ≤ a / m + 1 → (q ≡ a / m → 2 * (a % m) ≤ m) → (q ≡ a / m + 1 → m ≤ 2 * (a % m)) → (2 * (a % m) ≡ m → q % 2 ≡ 0) → Rounded a m q
   unfolding distance
-  lower-rounded h e =
-      let d = div-add-mod' a m in
-      record { nearest = omega arith; half-to-even = λ t. e (omega arith) }
-
-  pub upper-rounded : m ≤ 2 * (a % m) → (2 * (a % m) ≡ m → (a / m + 1) % 2 ≡ 0) → Rounded a m (a / m + 1)
-  unfolding distance
-  upper-rounded h e =
+  beside-rounded q low high lower upper even =
       let d = div-add-mod' a m in
       let l = mod-lt a pos in
-      let n = next-multiple (a / m) m in
-      record { nearest = omega arith; half-to-even = λ t. e (omega arith) }
-
-  -- at an exact half, the even one of the two
-  pub half-rounded : 2 * (a % m) ≡ m → Rounded a m (a / m + a / m % 2)
-  half-rounded h =
-      by-dec (ℕ-discrete (a / m % 2) 0)
-      (λ e. let same : a / m + a / m % 2 ≡ a / m = omega arith in rw same (lower-rounded (omega arith) (λ t. e)))
-      (λ n. let next : a / m + a / m % 2 ≡ a / m + 1 = omega arith in rw next (upper-rounded (omega arith) (λ t. omega arith)))
+      by-dec (ℕ-discrete q (a / m))
+      (λ e. let h = lower e in let s : q * m ≡ a / m * m = ap (λ (x : ℕ). x * m) e in record { nearest = omega arith; half-to-even = λ t. even (omega arith) })
+      (λ n.
+      let e : q ≡ a / m + 1 = omega arith in
+      let h = upper e in
+      let s : q * m ≡ a / m * m + m = ap (λ (x : ℕ). x * m) e ∙ next-multiple (a / m) m in
+      record { nearest = omega arith; half-to-even = λ t. even (omega arith) })
 
   nearest-rounded : Rounded a m (nearestWhole a m)
   unfolding nearestWhole
   nearest-rounded =
       let l = mod-lt a pos in
       by-test (ltb (a % m) (m - a % m))
-      (λ t. let lt : a % m < m - a % m = ltb-true _ _ t in rw (t, nearestWhole) (lower-rounded (omega arith) (λ e. absurd (omega arith))))
+      (λ t. let lt : a % m < m - a % m = ltb-true _ _ t in rw (t, nearestWhole) (beside-rounded _ (omega arith) (omega arith) (λ e. omega arith) (λ e. omega arith) (λ e. omega arith)))
       (λ f.
       let ge : m - a % m ≤ a % m = ltb-false _ _ f in
       by-test (ltb (m - a % m) (a % m))
-      (λ t. let gt : m - a % m < a % m = ltb-true _ _ t in rw (f, t, nearestWhole) (upper-rounded (omega arith) (λ e. absurd (omega arith))))
-      (λ g. let le : a % m ≤ m - a % m = ltb-false _ _ g in rw (f, g, nearestWhole) (half-rounded (omega arith))))
+      (λ t. let gt : m - a % m < a % m = ltb-true _ _ t in rw (f, t, nearestWhole) (beside-rounded _ (omega arith) (omega arith) (λ e. omega arith) (λ e. omega arith) (λ e. omega arith)))
+      (λ g. let le : a % m ≤ m - a % m = ltb-false _ _ g in rw (f, g, nearestWhole) (beside-rounded _ (omega arith) (omega arith) (λ e. omega arith) (λ e. omega arith) (λ e. omega arith))))
 
   pub only-nearest : (q : ℕ) → Rounded a m q → q ≡ nearestWhole a m
   only-nearest q x = one-rounded a m q (nearestWhole a m) pos x nearest-rounded

@@ -2,8 +2,9 @@ use borrow.Author.Needs.{needs}
 use Rattle.coverage.proofs.figure.Statement.{statement}
 use Rattle.coverage.proofs.figure.Tie as tie
 use mathlib.Core.Path.{ap₂, _∙_}
+use native.Mathlib.Omega.{arith}
 use Rattle.words.proofs.CountLaws.{count-le}
-use Rattle.layout.specs.Calls.{coverageFigure}
+use Rattle.layout.specs.Calls.{nearestWhole, coverageFigure}
 use Rattle.tablecheck.specs.Inner.{pageMapped}
 use Rattle.coverage.specs.Inner.{pageInRange}
 use Rattle.coverage.proofs.CoverageLaws.{some-counted}
@@ -19,7 +20,9 @@ nearest-whole-requires c κs = let h = some-counted 1024 (pageMapped (c .before 
 
 returns : tie.Need-returns
 unfolding coverageFigure
-returns c = c .nearest-whole .ensures ∙ ap₂ coverageFigure (c .before .before .count-pages .ensures .1) (c .before .before .count-pages .ensures .0)
+returns c =
+    let within = c .before .before .count-pages .ensures .1 in
+    c .nearest-whole .ensures ∙ ap₂ nearestWhole (omega arith) (c .before .before .count-pages .ensures .0)
 
 pub figure-spec : {M : Type 1} → statement M
 figure-spec = tie.close (tie.spec count-pages-requires mul-nearest-whole nearest-whole-requires returns)
