@@ -305,6 +305,14 @@ pub fn protect(b: &mut Buffers, space: u32, first: u32, count: u32, rights: u32)
     Ok((changed, 0))
 }
 
+/// Pages of a space in ranges, and its mapped pages.
+pub fn pages_counted(b: &Buffers, space: u32) -> (u32, u32) {
+    let pages = b.space_pages(space);
+    let inside = pages.iter().filter(|&&w| in_range(w)).count() as u32;
+    let mapped = pages.iter().filter(|&&w| w != 0).count() as u32;
+    (inside, mapped)
+}
+
 /// 10,000 × inside / mapped, to the nearest whole figure; an exact half goes to
 /// the even one.
 pub fn figure(inside: u32, mapped: u32, rules: &Rules) -> u32 {
@@ -321,9 +329,7 @@ pub fn coverage(b: &Buffers, space: u32, rules: &Rules) -> Outcome {
     judge(b)?;
     space_known(space)?;
     space_open(b, space)?;
-    let pages = b.space_pages(space);
-    let mapped = pages.iter().filter(|&&w| w != 0).count() as u32;
-    let inside = pages.iter().filter(|&&w| in_range(w)).count() as u32;
+    let (inside, mapped) = pages_counted(b, space);
     if mapped == 0 {
         return Err(12);
     }

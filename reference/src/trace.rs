@@ -269,14 +269,6 @@ fn ranges_used(b: &Buffers) -> u32 {
     b.ranges.chunks_exact(4).filter(|r| r[1] != 0).count() as u32
 }
 
-/// Pages of a space in ranges, and its mapped pages.
-fn pages_counted(b: &Buffers, space: u32) -> (u32, u32) {
-    let pages = b.space_pages(space);
-    let inside = pages.iter().filter(|&&w| in_range(w)).count() as u32;
-    let mapped = pages.iter().filter(|&&w| w != 0).count() as u32;
-    (inside, mapped)
-}
-
 pub fn stats<R: Read>(input: R, rules: Rules) -> io::Result<Stats> {
     let mut stats = Stats::default();
     let mut core = Core::new(rules);
@@ -322,7 +314,7 @@ pub fn stats<R: Read>(input: R, rules: Rules) -> io::Result<Stats> {
                     stats.most_pages = stats.most_pages.max(asked.get()[2]);
                 }
                 if line.kind == COVERAGE {
-                    let (inside, mapped) = pages_counted(&core.buffers, asked.get()[0]);
+                    let (inside, mapped) = tables::pages_counted(&core.buffers, asked.get()[0]);
                     let half = half(inside, mapped);
                     stats.half_down += (half == Some(Half::Down)) as u64;
                     stats.half_up += (half == Some(Half::Up)) as u64;

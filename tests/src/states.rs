@@ -27,7 +27,7 @@ fn state(r: &mut Random) -> World {
             world.call(call);
         }
     }
-    // half of the states have a space at an exact half
+    // in every second state a space is brought to an exact half, if the pool allows it
     if r.one_in(2) {
         for call in calls_to_half(r, &world) {
             world.call(call);
