@@ -1,4 +1,4 @@
-/* Yavrestom: the nine calls for a kernel in C. A kernel in Rust declares the same functions in an extern "C" block.
+/* Yavrestom: the ten calls for a kernel in C. A kernel in Rust declares the same functions in an extern "C" block.
  *
  * Every buffer is lent as a pointer and, after it, its length in words (of 32 bits). The pointer is not null, and
  * that many words stand there. A buffer that a call may write (no const) overlaps no other buffer of that call, and
@@ -88,6 +88,14 @@ uint32_t yavrestom_map(const uint32_t *control, size_t control_words, uint32_t *
                        uint32_t *pages, size_t pages_words, uint32_t *ranges, size_t ranges_words,
                        uint32_t space, uint32_t first, uint32_t count, uint32_t rights,
                        uint32_t *values, size_t values_words);
+
+/* What a map with these arguments would answer; it alters nothing but `values`.
+ * Values: blocks that map would take, ranges that the space would then have. Refused as map. It takes some 23,000
+ * bytes of the stack. */
+uint32_t yavrestom_preview(const uint32_t *control, size_t control_words, const uint32_t *frames, size_t frames_words,
+                           const uint32_t *pages, size_t pages_words, const uint32_t *ranges, size_t ranges_words,
+                           uint32_t space, uint32_t first, uint32_t count, uint32_t rights,
+                           uint32_t *values, size_t values_words);
 
 /* Unmaps `count` pages from `first` on and appends a removal record for them.
  * Values: pages removed, 0. Refused: 1, 2, 5, 8, 10, 12, 15. */

@@ -22,7 +22,7 @@ use std::time::Instant;
 
 use unit::Rules;
 
-const USAGE: &str = "usage: reference run | encode | decode | stats | state
+const USAGE: &str = "usage: reference run | encode | decode | calls | stats | state
        reference gen SEED N STYLE   (mixed, sleep, fragment, big, garbage)
        reference bench [-k K] FILE..";
 
@@ -45,7 +45,8 @@ fn invalid(what: &str) -> io::Error {
 /// The rules, with the planted bug that REFERENCE_BUG names.
 fn rules() -> io::Result<Rules> {
     let name = std::env::var("REFERENCE_BUG").unwrap_or_default();
-    Rules::with_bug(&name).ok_or_else(|| invalid("REFERENCE_BUG is 65, limit, keep or half"))
+    Rules::with_bug(&name)
+        .ok_or_else(|| invalid("REFERENCE_BUG is 65, limit, keep, half or before"))
 }
 
 fn command(args: &[&str]) -> io::Result<()> {
@@ -57,6 +58,7 @@ fn command(args: &[&str]) -> io::Result<()> {
         }
         ["encode"] => text::encode(input, &mut output)?,
         ["decode"] => text::decode(input, &mut output)?,
+        ["calls"] => text::calls(input, &mut output, rules()?)?,
         ["stats"] => trace::stats(input, rules()?)?.print(&mut output)?,
         ["state"] => state::serve(&mut input, &mut output, &rules()?)?,
         ["gen", seed, n, style] => {

@@ -25,6 +25,26 @@ pub fn nearest(inside: u32, mapped: u32) -> u32 {
         .unwrap()
 }
 
+/// Longest runs of at least 8 pages in a space, counted by their definition from
+/// the page words alone, range bits aside.
+pub fn long_runs(pages: &[u32]) -> u32 {
+    // Whether a page stands where a run that begins at `base` would have it.
+    let fits = |base: usize, page: usize| {
+        let (start, word) = (pages[base], pages[page]);
+        word >= 65536
+            && word % 4096 == start % 4096 + (page - base) as u32
+            && word / 4096 % 8 == start / 4096 % 8
+    };
+    let run = |base: usize, limit: usize| (base..limit).all(|page| fits(base, page));
+    let begins = |&base: &usize| {
+        let limit = (base..pages.len()).find(|&page| !fits(base, page));
+        let limit = limit.unwrap_or(pages.len());
+        // Not longest where the page before belongs to it.
+        limit - base >= 8 && (base == 0 || !run(base - 1, limit))
+    };
+    (0..pages.len()).filter(begins).count() as u32
+}
+
 /// What the calls have left: held pages with frame and rights.
 #[derive(Clone, Default)]
 pub struct Plain {

@@ -4,7 +4,7 @@ use std::io::{self, Read, Write};
 
 use crate::tables;
 use crate::unit::{self, Rules, Unit, UNIT_WORDS};
-use crate::words::{Buffers, Outcome};
+use crate::words::{numbers, Buffers, Outcome};
 
 /// The next word; none at the end of input.
 fn word_or_end<R: Read>(input: &mut R) -> io::Result<Option<u32>> {
@@ -27,7 +27,12 @@ fn word<R: Read>(input: &mut R) -> io::Result<u32> {
 }
 
 fn words<R: Read>(input: &mut R, count: usize) -> io::Result<Vec<u32>> {
-    (0..count).map(|_| word(input)).collect()
+    let mut bytes = vec![0; 4 * count];
+    input.read_exact(&mut bytes)?;
+    Ok(bytes
+        .chunks_exact(4)
+        .map(|w| u32::from_le_bytes([w[0], w[1], w[2], w[3]]))
+        .collect())
 }
 
 fn buffer<R: Read>(input: &mut R) -> io::Result<Vec<u32>> {
@@ -59,6 +64,7 @@ pub fn perform(
         7 => unit::translate(b, unit, a0, a1, a2, rules),
         8 => tables::coverage(b, a0, rules),
         9 => unit::set_up_unit(unit),
+        10 => tables::preview(b, a0, a1, a2, a3, rules),
         _ => return None,
     })
 }
@@ -81,10 +87,7 @@ pub fn serve<R: Read, W: Write>(input: &mut R, output: &mut W, rules: &Rules) ->
         let outcome = perform(command, &mut b, &mut unit, args, rules).ok_or_else(|| {
             io::Error::new(io::ErrorKind::InvalidData, format!("no command {command}"))
         })?;
-        match outcome {
-            Ok((first, second)) => put(output, &[0, first, second])?,
-            Err(number) => put(output, &[number, 0, 0])?,
-        }
+        put(output, &numbers(outcome))?;
         for buffer in [&b.control, &b.frames, &b.pages, &b.ranges] {
             put(output, &[buffer.len() as u32])?;
             put(output, buffer)?;

@@ -261,6 +261,28 @@ pub fn map(b: &mut Buffers, space: u32, first: u32, count: u32, rights: u32) -> 
     Ok((blocks.len() as u32, 0))
 }
 
+/// Used entries of a space's range table.
+pub fn ranges_used(b: &Buffers, space: u32) -> u32 {
+    let entries = b.space_ranges(space).chunks_exact(4);
+    entries.filter(|e| !all_are(e, 0)).count() as u32
+}
+
+/// What map would answer, with the space's ranges afterwards; it is made on a
+/// copy.
+pub fn preview(
+    b: &Buffers,
+    space: u32,
+    first: u32,
+    count: u32,
+    rights: u32,
+    rules: &Rules,
+) -> Outcome {
+    let mut after = b.clone();
+    let (blocks, _) = map(&mut after, space, first, count, rights)?;
+    let counted = if rules.ranges_before { b } else { &after };
+    Ok((blocks, ranges_used(counted, space)))
+}
+
 pub fn unmap(b: &mut Buffers, space: u32, first: u32, count: u32) -> Outcome {
     judge(b)?;
     space_known(space)?;

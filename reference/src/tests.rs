@@ -1,5 +1,5 @@
 use crate::gen::{generate, Random, Style};
-use crate::plain::{nearest, refusals, unit_kept, Plain, PlainUnit};
+use crate::plain::{long_runs, nearest, refusals, unit_kept, Plain, PlainUnit};
 use crate::state;
 use crate::tables::{self, figure, judge};
 use crate::text;
@@ -47,6 +47,20 @@ fn answers(lines: &str) -> Vec<String> {
 
 fn last_answer(lines: &str) -> String {
     answers(lines).pop().unwrap()
+}
+
+/// What `calls` prints for a text.
+fn made_by(lines: &str, rules: Rules) -> String {
+    let mut printed = Vec::new();
+    text::calls(lines.as_bytes(), &mut printed, rules).unwrap();
+    String::from_utf8(printed).unwrap()
+}
+
+/// The last line of it, without its number.
+fn last_made(lines: &str) -> String {
+    let printed = made_by(lines, Rules::default());
+    let last = printed.lines().last().unwrap();
+    last.split_once(' ').unwrap().1.to_string()
 }
 
 /// The core after a text's calls.
@@ -403,6 +417,184 @@ fn halves_are_counted() {
     assert_eq!(halves(&format!("{NINE_OF_32}{more}coverage 0")), (2, 0));
 }
 
+// A preview of map (document 02, change 2).
+
+const PREVIEW_CALLS: &str = include_str!("../../tests/hard/preview.calls");
+const PREVIEW_LINES: &str = include_str!("../../tests/hard/preview.lines");
+
+#[test]
+fn stored_previews() {
+    assert_eq!(made_by(PREVIEW_CALLS, Rules::default()), PREVIEW_LINES);
+}
+
+#[test]
+fn previews_by_hand() {
+    let after = |calls: &str, asked: &str| {
+        last_made(&format!("setup 32\nopen 0\n{calls}\npreview {asked}"))
+    };
+    // Blocks of 8, 2 and 1 in one range; of 4, 2 and 1 in none.
+    assert_eq!(after("", "0 4 11 3"), "preview 0 3 1");
+    assert_eq!(after("", "0 0 7 3"), "preview 0 3 0");
+    // A gap between two ranges gets its own frames back and joins them.
+    let gap = "map 0 0 24 3\nunmap 0 8 8";
+    assert_eq!(after(gap, "0 8 8 3"), "preview 0 1 1");
+    assert_eq!(after(gap, "0 8 8 1"), "preview 0 1 3");
+    // The eighth page of a run.
+    assert_eq!(after("map 0 0 7 3", "0 7 1 3"), "preview 0 1 1");
+    assert_eq!(after("map 0 0 7 3", "0 7 1 1"), "preview 0 1 0");
+    // Frames 0, 2 and 4 are free: a block each, and pages 5 to 31 are a range.
+    let apart = "map 0 0 32 3\nunmap 0 0 1\nunmap 0 2 1\nunmap 0 4 1";
+    assert_eq!(after(apart, "0 100 3 3"), "preview 0 3 1");
+    // The ranges of one space are none of another's.
+    let beside = "map 0 0 8 3\nmap 0 100 8 3\nopen 1";
+    assert_eq!(after(beside, "1 0 8 3"), "preview 0 1 1");
+    assert_eq!(after(beside, "0 200 8 3"), "preview 0 1 3");
+}
+
+#[test]
+fn long_runs_by_hand() {
+    // Spans as first page, pages, first frame, rights.
+    let counted = |spans: &[(usize, u32, u32, u32)]| {
+        let mut pages = vec![0; SPAN];
+        for &(first, count, frame, rights) in spans {
+            for i in 0..count {
+                pages[first + i as usize] = page_word(frame + i, rights);
+            }
+        }
+        let bare = long_runs(&pages);
+        // Range bits say nothing.
+        for word in pages.iter_mut().filter(|w| **w != 0).step_by(3) {
+            *word |= IN_RANGE;
+        }
+        assert_eq!(long_runs(&pages), bare);
+        bare
+    };
+    assert_eq!(counted(&[]), 0);
+    assert_eq!(counted(&[(0, 7, 0, 3)]), 0);
+    assert_eq!(counted(&[(0, 8, 0, 3)]), 1);
+    assert_eq!(counted(&[(1016, 8, 4088, 0)]), 1);
+    assert_eq!(counted(&[(1017, 7, 4089, 0)]), 0);
+    assert_eq!(counted(&[(0, 1024, 9, 7)]), 1);
+    assert_eq!(counted(&[(4, 8, 0, 3), (12, 8, 8, 3)]), 1);
+    assert_eq!(counted(&[(4, 8, 0, 3), (12, 8, 8, 1)]), 2);
+    assert_eq!(counted(&[(4, 8, 8, 3), (12, 8, 0, 3)]), 2);
+    assert_eq!(counted(&[(4, 8, 0, 3), (12, 7, 0, 3)]), 1);
+    assert_eq!(counted(&[(4, 8, 0, 3), (13, 8, 9, 3)]), 2);
+}
+
+#[test]
+fn calls_answer_as_run() {
+    for style in STYLES {
+        let lines = decoded(&generated(31, 500, style));
+        let calls: Vec<&str> = lines.lines().filter(|l| !l.starts_with("raw")).collect();
+        let calls = calls.join("\n");
+        let named: Vec<String> = (1..)
+            .zip(listed(&encoded(&calls)).lines().skip(1))
+            .map(|(number, line)| {
+                let (kind, rest) = line.split_once(' ').unwrap().1.split_once(' ').unwrap();
+                format!("{number} {} {rest}", NAMES[kind.parse::<usize>().unwrap()])
+            })
+            .collect();
+        let printed = made_by(&calls, Rules::default());
+        assert_eq!(printed.lines().skip(1).collect::<Vec<&str>>(), named);
+    }
+    // Comments and blank lines are counted, a unit above 1 makes no call.
+    let lines = "# none\n\n setup 8 # all\n\ntranslate 2 0 0 1\n";
+    let expected = "line call answer first second\n3 setup 0 0 0\n5 translate 16 0 0\n";
+    assert_eq!(made_by(lines, Rules::default()), expected);
+}
+
+/// What a preview of the map just made had to say: its answer, with the ranges
+/// that it left.
+fn with_ranges(mapped: Outcome, b: &Buffers, space: u32) -> Outcome {
+    mapped.map(|(blocks, _)| (blocks, long_runs(b.space_pages(space))))
+}
+
+/// Some pages from the start of a gap on, or the whole gap, with the rights of
+/// the page before; once in a while with an odd number.
+fn some_span(random: &mut Random, b: &Buffers) -> [u32; 4] {
+    let space = random.below(4) as u32;
+    let pages = b.space_pages(space);
+    let from = 1 + random.below(1023) as usize;
+    let first = (from..SPAN)
+        .chain(1..from)
+        .find(|&page| pages[page] == 0 && pages[page - 1] != 0)
+        .unwrap_or(from);
+    let gap = pages[first..].iter().take_while(|&&w| w == 0).count() as u32;
+    let count = match random.one_in(2) {
+        true => gap,
+        false => 1 + random.below(30) as u32,
+    };
+    let mut args = [space, first as u32, count, rights_of(pages[first - 1])];
+    if random.one_in(6) {
+        args[random.below(4) as usize] = random.pick(&[0, 3, 4, 7, 8, 1023, 1024, u32::MAX]);
+    }
+    args
+}
+
+/// Takes pages out of a long range, so that a range is left on both sides; gives
+/// their span with its rights.
+fn part_taken_out(random: &mut Random, b: &mut Buffers) -> Option<[u32; 4]> {
+    let space = random.below(4) as u32;
+    let count = 1 << random.below(4);
+    let ranges = b.space_ranges(space).chunks_exact(4);
+    let long: Vec<&[u32]> = ranges.filter(|r| r[1] - r[0] >= 16 + count).collect();
+    if long.is_empty() {
+        return None;
+    }
+    let [base, limit, _, rights] = *random.pick(&long) else {
+        unreachable!()
+    };
+    let first = base + 8 + random.below((limit - base - 15 - count) as u64) as u32;
+    tables::unmap(b, space, first, count).unwrap();
+    Some([space, first, count, rights])
+}
+
+#[test]
+fn preview_is_map_on_a_copy() {
+    let rules = Rules::default();
+    let mut random = Random(71);
+    let mut numbers = [0; 17];
+    // Fewer ranges afterwards, as many, more; more blocks than ranges.
+    let mut cases = [0; 4];
+    let mut core = Core::new(rules);
+    for round in 0..3000u64 {
+        if round % 30 == 0 {
+            core = some_core(round, 200 + round / 30, STYLES[(round / 30 % 4) as usize]);
+        }
+        let mut b = core.buffers.clone();
+        let taken_out = match random.one_in(4) {
+            true => part_taken_out(&mut random, &mut b),
+            false => None,
+        };
+        let args = taken_out.unwrap_or_else(|| some_span(&mut random, &b));
+        let at = random.below(2048) as usize;
+        match random.below(20) {
+            0 => b.ranges.truncate(at),
+            1 => disturb(&mut random, &mut b.pages[at]),
+            _ => {}
+        }
+        let (lent, mut unit) = (b.clone(), core.units[0]);
+        let tried = state::perform(10, &mut b, &mut unit, args, &rules).unwrap();
+        assert!(b == lent && unit == core.units[0], "{args:?}");
+
+        let [space, first, count, rights] = args;
+        let mapped = tables::map(&mut b, space, first, count, rights);
+        assert_eq!(tried, with_ranges(mapped, &b, space), "{args:?}");
+        numbers[tried.err().unwrap_or(0) as usize] += 1;
+        if let Ok((blocks, ranges)) = tried {
+            let before = long_runs(lent.space_pages(space));
+            cases[(ranges.cmp(&before) as i32 + 1) as usize] += 1;
+            cases[3] += (blocks > ranges) as u32;
+        }
+    }
+    for number in [0, 1, 2, 5, 6, 8, 10, 11, 14] {
+        assert!(numbers[number] > 0, "no {number}: {numbers:?}");
+    }
+    assert_eq!(numbers.iter().filter(|&&n| n > 0).count(), 9, "{numbers:?}");
+    assert!(cases.iter().all(|&n| n > 0), "{cases:?}");
+}
+
 // The record file.
 
 #[test]
@@ -427,6 +619,10 @@ fn malformed_records() {
     let lines = "raw 0200 0000\nraw 0200 0900\nraw 0200 0100\nraw 0500 0100 200000\nopen 0";
     let expected = ["0 16 0 0", "9 16 0 0", "1 16 0 0", "1 16 0 0", "2 2 0 0"];
     assert_eq!(answers(lines), expected);
+    // A preview has no kind: the first unknown ones with map's arguments.
+    let lines = "setup 32\nopen 0\nraw 0a00 0900 0000 0400 0b00 0300
+        raw 0a00 0a00 0000 0400 0b00 0300\ncoverage 0";
+    assert_eq!(answers(lines)[2..], ["9 16 0 0", "10 16 0 0", "8 12 0 0"]);
     // The longest record, whole and cut.
     let mut long = vec![255, 255, 7, 1];
     long.resize(2 + 65535, 3);
@@ -460,6 +656,14 @@ fn text_both_ways() {
     let lines = "setup 32\nopen 0\nclose 1\nmap 0 4 11 3\nunmap 0 6 1\nprotect 0 4 2 1
 translate 7 0 6 1\ncoverage 65535\nraw 0000\nraw 0100ff\nraw 04000100\n";
     assert_eq!(decoded(&encoded(lines)), lines);
+    let encode_error = |lines: &str| {
+        let result = text::encode(lines.as_bytes(), &mut Vec::new());
+        result.unwrap_err().to_string()
+    };
+    let calls_error = |lines: &str| {
+        let result = text::calls(lines.as_bytes(), &mut Vec::new(), Rules::default());
+        result.unwrap_err().to_string()
+    };
     for wrong in [
         "set 3",
         "open",
@@ -468,9 +672,17 @@ translate 7 0 6 1\ncoverage 65535\nraw 0000\nraw 0100ff\nraw 04000100\n";
         "open -1",
         "raw 0",
         "raw 0g",
+        "preview 0 0 1",
+        "preview 0 0 1 3 3",
+        "preview 0 0 1 x",
     ] {
-        assert!(text::encode(wrong.as_bytes(), &mut Vec::new()).is_err());
+        let lines = format!("setup 32\n# first\n{wrong}\n");
+        assert!(encode_error(&lines).starts_with("line 3: "));
+        assert_eq!(calls_error(&lines), encode_error(&lines));
     }
+    let error = encode_error("setup 32\n\npreview 0 0 1 3\nset 3");
+    assert_eq!(error, "line 3: preview has no record kind");
+    assert_eq!(calls_error("setup 32\nraw 0000"), "line 2: raw is no call");
     let mut random = Random(11);
     for round in 0..400 {
         // Small lengths, so that several records come out of random bytes.
@@ -587,6 +799,8 @@ fn big_is_big() {
 
 #[test]
 fn garbage_is_malformed() {
+    // Records of kinds 9 and 10 with as many arguments as map has.
+    let mut like_map = [0; 2];
     for seed in 0..6 {
         let bytes = generated(seed, 1000, Style::Garbage);
         let s = counted(&bytes);
@@ -600,9 +814,13 @@ fn garbage_is_malformed() {
         let mut cut = false;
         while let Some(piece) = pieces.next().unwrap() {
             cut = matches!(piece, Piece::Cut(_));
+            if let Piece::Whole([10, 0, kind @ (9 | 10), 0, ..]) = piece {
+                like_map[*kind as usize - 9] += 1;
+            }
         }
         assert!(cut);
     }
+    assert!(like_map.iter().all(|&n| n > 0), "{like_map:?}");
 }
 
 // Planted bugs.
@@ -628,6 +846,11 @@ fn planted_bugs_show() {
     let half = Rules::with_bug("half").unwrap();
     assert!(listed_by(&encoded(NINE_OF_32), half).ends_with(" 8 0 2813 0\n"));
     assert!(listed_by(&encoded(ELEVEN_OF_32), half).ends_with(" 8 0 3438 0\n"));
+    // No listing shows a preview.
+    let before = Rules::with_bug("before").unwrap();
+    let one = made_by("setup 32\nopen 0\npreview 0 4 11 3", before);
+    assert!(one.ends_with("\n3 preview 0 3 0\n"));
+    assert_ne!(made_by(PREVIEW_CALLS, before), PREVIEW_LINES);
 }
 
 // Against the rules written down slowly.
@@ -647,8 +870,12 @@ fn compare(bytes: &[u8], every: usize) {
         };
         n += 1;
         let before = (core.buffers.clone(), core.units);
+        let tried = (call.kind == MAP).then(|| core.preview(&call));
         let outcome = core.perform(&call);
         let args = call.args.map(u32::from);
+        if let Some(tried) = tried {
+            assert_eq!(tried, with_ranges(outcome, &core.buffers, args[0]));
+        }
         let lowest = refusals(&plain, &call).first().copied();
         if lowest.is_some() || call.kind != TRANSLATE {
             assert_eq!(outcome.err(), lowest, "{call:?}");
@@ -860,7 +1087,7 @@ fn lengths_come_first() {
             let length = (buffer.len() as i32 + change).max(0) as usize;
             buffer.resize(length, 0);
             let lent = b.clone();
-            for command in 1..=8 {
+            for command in (1..=8).chain([10]) {
                 let mut unit = core.units[0];
                 unit.next = 99;
                 let before = unit;
@@ -980,7 +1207,7 @@ fn refusals_leave_all_as_it_was() {
         if random.one_in(4) {
             unit.seen = random.below(200) as u32;
         }
-        let command = 1 + random.below(9) as u32;
+        let command = 1 + random.below(10) as u32;
         let mut arg = |good: u64| match random.one_in(8) {
             true => random.pick(&[0, 4, 8, 1023, 1024, 4096, u32::MAX]),
             false => random.below(good) as u32,
@@ -997,6 +1224,7 @@ fn refusals_leave_all_as_it_was() {
                 assert!((&b, unit) == (&lent.0, lent.1));
             }
             Ok(_) if command == 9 => assert!(b == lent.0 && unit == Unit::fresh()),
+            Ok(_) if command == 10 => assert!((&b, unit) == (&lent.0, lent.1)),
             Ok(_) => assert!(Plain::read(&b).is_some()),
         }
     }
@@ -1027,6 +1255,7 @@ fn protocol() {
     ask(7, &core.buffers, &core.units[0], [0, 1, 2, 0]);
     ask(9, &empty, &core.units[0], [0; 4]);
     ask(2, &empty, &core.units[0], [0; 4]);
+    ask(10, &core.buffers, &core.units[0], [0, 16, 3, 3]);
     ask(1, &core.buffers, &core.units[0], [77, 0, 0, 0]);
     let bytes: Vec<u8> = input.iter().flat_map(|w| w.to_le_bytes()).collect();
     let mut output = Vec::new();
@@ -1045,6 +1274,7 @@ fn protocol() {
     answer([0, 1, 2], &core.buffers, &after.units[0]);
     answer([0, 0, 0], &empty, &Unit::fresh());
     answer([1, 0, 0], &empty, &core.units[0]);
+    answer([0, 2, 1], &core.buffers, &core.units[0]);
     let set_up = core_after("setup 77").buffers;
     answer([0, 0, 0], &set_up, &core.units[0]);
     let expected: Vec<u8> = expected.iter().flat_map(|w| w.to_le_bytes()).collect();
@@ -1054,6 +1284,6 @@ fn protocol() {
     let cut = &bytes[..bytes.len() - 1];
     assert!(state::serve(&mut &cut[..], &mut Vec::new(), &Rules::default()).is_err());
     let mut unknown = bytes.clone();
-    unknown[0] = 10;
+    unknown[0] = 11;
     assert!(state::serve(&mut &unknown[..], &mut Vec::new(), &Rules::default()).is_err());
 }

@@ -164,6 +164,12 @@ impl Core {
             _ => Err(16),
         }
     }
+
+    /// Tries a map. No record kind asks for it.
+    pub fn preview(&self, map: &Call) -> Outcome {
+        let [space, first, count, rights] = map.args.map(u32::from);
+        tables::preview(&self.buffers, space, first, count, rights, &self.rules)
+    }
 }
 
 /// One line of the listing, without its number.
@@ -213,10 +219,7 @@ pub fn run<R: Read, W: Write>(input: R, output: &mut W, rules: Rules) -> io::Res
         |_, _| {},
         |_, line| {
             number += 1;
-            let (answer, first, second) = match line.outcome {
-                Ok((first, second)) => (0, first, second),
-                Err(refusal) => (refusal, 0, 0),
-            };
+            let [answer, first, second] = numbers(line.outcome);
             writeln!(output, "{number} {} {answer} {first} {second}", line.kind)
         },
     )?;
@@ -263,10 +266,6 @@ pub struct Stats {
     pub most_open: u32,
     pub ranges_gained: u64,
     pub ranges_lost: u64,
-}
-
-fn ranges_used(b: &Buffers) -> u32 {
-    b.ranges.chunks_exact(4).filter(|r| r[1] != 0).count() as u32
 }
 
 pub fn stats<R: Read>(input: R, rules: Rules) -> io::Result<Stats> {
@@ -319,7 +318,9 @@ pub fn stats<R: Read>(input: R, rules: Rules) -> io::Result<Stats> {
                     stats.half_down += (half == Some(Half::Down)) as u64;
                     stats.half_up += (half == Some(Half::Up)) as u64;
                 }
-                let now = ranges_used(&core.buffers);
+                let now = (0..SPACES as u32)
+                    .map(|space| tables::ranges_used(&core.buffers, space))
+                    .sum::<u32>();
                 stats.ranges_gained += now.saturating_sub(ranges) as u64;
                 stats.ranges_lost += ranges.saturating_sub(now) as u64;
                 stats.most_ranges = stats.most_ranges.max(now);

@@ -38,8 +38,8 @@ pub struct Unit {
     pub seen: u32,
 }
 
-/// How translate and coverage go; the default is right, the rest are planted
-/// bugs.
+/// How translate, coverage and preview go; the default is right, the rest are
+/// planted bugs.
 #[derive(Clone, Copy, PartialEq, Eq, Debug)]
 pub struct Rules {
     /// The most unseen records that are applied singly.
@@ -50,6 +50,8 @@ pub struct Rules {
     pub keep: bool,
     /// An exact half of coverage always goes up.
     pub halves_up: bool,
+    /// A preview counts the ranges as they are before the map.
+    pub ranges_before: bool,
 }
 
 impl Default for Rules {
@@ -59,6 +61,7 @@ impl Default for Rules {
             limit_covered: false,
             keep: false,
             halves_up: false,
+            ranges_before: false,
         }
     }
 }
@@ -73,6 +76,7 @@ impl Rules {
             "limit" => rules.limit_covered = true,
             "keep" => rules.keep = true,
             "half" => rules.halves_up = true,
+            "before" => rules.ranges_before = true,
             _ => return None,
         }
         Some(rules)

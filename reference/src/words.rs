@@ -28,6 +28,14 @@ pub const IN_RANGE: u32 = 32768;
 /// Two values, or the number of the refusal.
 pub type Outcome = Result<(u32, u32), u32>;
 
+/// Answer, first and second.
+pub fn numbers(outcome: Outcome) -> [u32; 3] {
+    match outcome {
+        Ok((first, second)) => [0, first, second],
+        Err(refusal) => [refusal, 0, 0],
+    }
+}
+
 /// The four buffers, of any length and contents.
 #[derive(Clone, PartialEq, Eq, Debug)]
 pub struct Buffers {

@@ -60,6 +60,7 @@ fn empty_input() {
     assert_eq!(good(&["run"], b""), b"record kind answer first second\n");
     assert_eq!(good(&["encode"], b""), b"");
     assert_eq!(good(&["decode"], b""), b"");
+    assert_eq!(good(&["calls"], b""), b"line call answer first second\n");
     assert_eq!(good(&["state"], b""), b"");
     assert!(good(&["stats"], b"").starts_with(b"records 0\nanswer_0 0\n"));
 }
@@ -85,7 +86,9 @@ fn wrong_use() {
     ] {
         assert!(!reference(args, None, b"").status.success(), "{args:?}");
     }
-    assert!(!reference(&["encode"], None, b"jump 3").status.success());
+    for command in ["encode", "calls"] {
+        assert!(!reference(&[command], None, b"jump 3").status.success());
+    }
     assert!(!reference(&["run"], Some("other"), b"").status.success());
 }
 
@@ -105,6 +108,27 @@ fn planted_bugs_turn_the_listing() {
         assert!(wrong.status.success());
         assert_ne!(wrong.stdout, right, "{bug}");
     }
+}
+
+#[test]
+fn preview_in_a_text() {
+    let calls = b"setup 32 # frames\nopen 0\n\npreview 0 4 11 3\nmap 0 4 11 3\n";
+    let printed = |bug: Option<&str>| {
+        let output = reference(&["calls"], bug, calls);
+        assert!(output.status.success());
+        String::from_utf8(output.stdout).unwrap()
+    };
+    let right = "line call answer first second
+1 setup 0 0 0
+2 open 0 0 0
+4 preview 0 3 1
+5 map 0 3 0
+";
+    assert_eq!(printed(None), right);
+    assert_eq!(printed(Some("before")), right.replace("0 3 1", "0 3 0"));
+    let refused = reference(&["encode"], None, calls);
+    assert!(!refused.status.success());
+    assert!(String::from_utf8_lossy(&refused.stderr).contains("line 4: "));
 }
 
 #[test]

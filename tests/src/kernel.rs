@@ -31,6 +31,7 @@ pub const PROTECT: u32 = 6;
 pub const TRANSLATE: u32 = 7;
 pub const COVERAGE: u32 = 8;
 pub const SET_UP_UNIT: u32 = 9;
+pub const PREVIEW: u32 = 10;
 
 // words of the control buffer, and where its removal records begin
 pub const CONTROL: usize = 195;
@@ -50,6 +51,12 @@ impl World {
             ranges: vec![0; 2048],
             unit: vec![0; UNIT],
         }
+    }
+
+    /// Used entries of a space's range table.
+    pub fn ranges_used(&self, space: u32) -> u32 {
+        let entries = self.ranges[512 * space as usize..][..512].chunks(4);
+        entries.filter(|e| e.iter().any(|w| *w != 0)).count() as u32
     }
 }
 
@@ -102,6 +109,22 @@ extern "C" {
         pages: *mut u32,
         pn: usize,
         ranges: *mut u32,
+        rn: usize,
+        space: u32,
+        first: u32,
+        count: u32,
+        rights: u32,
+        values: *mut u32,
+        vn: usize,
+    ) -> u32;
+    fn yavrestom_preview(
+        control: *const u32,
+        cn: usize,
+        frames: *const u32,
+        fnn: usize,
+        pages: *const u32,
+        pn: usize,
+        ranges: *const u32,
         rn: usize,
         space: u32,
         first: u32,
@@ -206,7 +229,9 @@ impl World {
                 PROTECT => yavrestom_protect(cp, cn, fp, fl, pp, pn, rp, rn, a, b, c, d, v, vn),
                 TRANSLATE => yavrestom_translate(up, un, cp, cn, fp, fl, pp, pn, rp, rn, a, b, c, v, vn),
                 COVERAGE => yavrestom_coverage(cp, cn, fp, fl, pp, pn, rp, rn, a, v, vn),
-                _ => yavrestom_set_up_unit(up, un, v, vn),
+                SET_UP_UNIT => yavrestom_set_up_unit(up, un, v, vn),
+                PREVIEW => yavrestom_preview(cp, cn, fp, fl, pp, pn, rp, rn, a, b, c, d, v, vn),
+                other => panic!("no call {other}"),
             }
         }
     }

@@ -2,6 +2,7 @@
 use crate::kernel::*;
 use crate::random::Random;
 use crate::second::Second;
+use std::cmp::Ordering;
 use std::collections::BTreeMap;
 
 /// How often each thing occurred.
@@ -9,8 +10,8 @@ use std::collections::BTreeMap;
 pub struct Seen(pub BTreeMap<String, u64>);
 
 impl Seen {
-    pub fn note(&mut self, what: String) {
-        *self.0.entry(what).or_default() += 1;
+    pub fn note(&mut self, what: impl Into<String>) {
+        *self.0.entry(what.into()).or_default() += 1;
     }
 
     /// Prints the counts; false where one that must occur did not.
@@ -44,8 +45,19 @@ fn difference(a: &World, b: &World) -> String {
     "nothing".to_string()
 }
 
-/// Makes one call both ways; the answer, or what differs. A refusal alters no word.
-pub fn both(second: &mut Second, world: &mut World, call: Call) -> Result<Answer, String> {
+/// What a preview has to answer: the proved map on a copy, followed, where accepted, by counting.
+fn map_on_a_copy(world: &World, call: Call) -> Answer {
+    let mut copy = world.clone();
+    let mapped = copy.call(Call { kind: MAP, ..call });
+    let (first, second) = match mapped.number {
+        0 => (mapped.first, copy.ranges_used(call.arguments[0])),
+        _ => (0, 0),
+    };
+    Answer { first, second, ..mapped }
+}
+
+/// Makes one call both ways; the answer, or what differs. A refusal alters no word, nor does a preview.
+fn both(second: &mut Second, world: &mut World, call: Call) -> Result<Answer, String> {
     let before = world.clone();
     let mut other = world.clone();
     let theirs = second.call(&mut other, call);
@@ -56,8 +68,15 @@ pub fn both(second: &mut Second, world: &mut World, call: Call) -> Result<Answer
     if *world != other {
         return Err(format!("{call:?} {ours:?}: {}", difference(world, &other)));
     }
-    if ours.number != 0 && *world != before {
+    let previews = call.kind == PREVIEW;
+    if (ours.number != 0 || previews) && *world != before {
         return Err(format!("{call:?} {ours:?} altered a word: {}", difference(world, &before)));
+    }
+    if previews {
+        let wanted = map_on_a_copy(&before, call);
+        if ours != wanted {
+            return Err(format!("{call:?}: {ours:?}, map on a copy {wanted:?}"));
+        }
     }
     Ok(ours)
 }
@@ -80,7 +99,7 @@ pub fn some_call(r: &mut Random, world: &World) -> Call {
         r.pick(&[3, 3, 3, 1, 7, 5, 0, 2])
     };
     let access = if r.one_in(30) { r.below(9) as u32 } else { r.pick(&[1, 1, 1, 2, 4]) };
-    let (kind, arguments) = match r.below(40) {
+    let (kind, arguments) = match r.below(41) {
         0..=2 => (OPEN, [space, 0, 0, 0]),
         3 => (CLOSE, [space, 0, 0, 0]),
         4..=11 => (MAP, [space, first, count, rights]),
@@ -89,6 +108,7 @@ pub fn some_call(r: &mut Random, world: &World) -> Call {
         20 => (COVERAGE, [space, 0, 0, 0]),
         21 if r.one_in(8) => (SET_UP_UNIT, [0; 4]),
         22 if r.one_in(12) => (SET_UP_POOL, [if r.one_in(2) { 0 } else { 4097 + r.below(3) as u32 }, 0, 0, 0]),
+        40 => (PREVIEW, [space, first, count, rights]),
         _ => (TRANSLATE, [space, mapped_page(r, world, space).unwrap_or(first), access, 0]),
     };
     Call { kind, arguments }
@@ -115,16 +135,40 @@ fn half(inside: u32, mapped: u32) -> Option<&'static str> {
     }
 }
 
-/// Counts an accepted coverage that is an exact half, by the page words alone.
-pub fn note_half(world: &World, call: Call, answer: Answer, seen: &mut Seen) {
-    if call.kind != COVERAGE || answer.number != 0 {
-        return;
+/// Counts the cases of interest, of coverage and of previews. The world is that after the call.
+fn note_cases(world: &World, call: Call, answer: Answer, seen: &mut Seen) {
+    let space = call.arguments[0];
+    match (call.kind, answer.number) {
+        (COVERAGE, 0) => note_half(world, space, seen),
+        (PREVIEW, number) => {
+            seen.note(format!("preview_{number}"));
+            if number == 0 {
+                note_accepted_preview(world, space, answer, seen);
+            }
+        }
+        _ => {}
     }
-    let pages = &world.pages[1024 * call.arguments[0] as usize..][..1024];
+}
+
+/// Counts what a map would make of the space's ranges and blocks. Only where two ranges become one do they get fewer.
+fn note_accepted_preview(world: &World, space: u32, answer: Answer, seen: &mut Seen) {
+    seen.note(match answer.second.cmp(&world.ranges_used(space)) {
+        Ordering::Less => "preview_joins",
+        Ordering::Equal => "preview_same_ranges",
+        Ordering::Greater => "preview_adds",
+    });
+    if answer.first > 1 {
+        seen.note("preview_several_blocks");
+    }
+}
+
+/// Counts a coverage that is an exact half, by the page words alone.
+fn note_half(world: &World, space: u32, seen: &mut Seen) {
+    let pages = &world.pages[1024 * space as usize..][..1024];
     let mapped = pages.iter().filter(|w| **w != 0).count() as u32;
     let inside = pages.iter().filter(|w| **w & 32768 != 0).count() as u32;
     if let Some(what) = half(inside, mapped) {
-        seen.note(what.to_string());
+        seen.note(what);
     }
 }
 
@@ -153,11 +197,55 @@ pub fn calls_to_half(r: &mut Random, world: &World) -> Vec<Call> {
         rights = 8 - rights;
     }
     calls.push((COVERAGE, [0; 3]));
-    let of_space = |(kind, [a, b, c]): (u32, [u32; 3])| Call {
+    of_space(space, &calls)
+}
+
+/// Calls of one space, by their kind and further arguments.
+fn of_space(space: u32, calls: &[(u32, [u32; 3])]) -> Vec<Call> {
+    let call = |&(kind, [a, b, c]): &(u32, [u32; 3])| Call {
         kind,
         arguments: [space, a, b, c],
     };
-    calls.into_iter().map(of_space).collect()
+    calls.iter().map(call).collect()
+}
+
+/// Calls that empty a space, map a span, unmap its middle and map that again: where the pool gives the same frames back, two ranges
+/// become one.
+fn calls_to_join(r: &mut Random) -> Vec<Call> {
+    let space = 1 + r.below(3) as u32;
+    let middle = r.pick(&[1, 2, 4, 8]);
+    // the lower part is a multiple of the middle, so that in a fresh pool the middle is one block
+    let (below, above) = (8 + 8 * r.below(3) as u32, 8 + r.below(9) as u32);
+    let count = below + middle + above;
+    let first = r.below(u64::from(1025 - count)) as u32;
+    let calls = [
+        (CLOSE, [0; 3]),
+        (OPEN, [0; 3]),
+        (MAP, [first, count, 3]),
+        (UNMAP, [first + below, middle, 0]),
+        (MAP, [first + below, middle, 3]),
+    ];
+    of_space(space, &calls)
+}
+
+/// Makes a call both ways and counts its cases. A map is tried by a preview before.
+pub fn step(second: &mut Second, world: &mut World, call: Call, seen: &mut Seen) -> Result<Answer, String> {
+    if call.kind == MAP {
+        step(second, world, Call { kind: PREVIEW, ..call }, seen)?;
+    }
+    let answer = both(second, world, call)?;
+    note_cases(world, call, answer, seen);
+    Ok(answer)
+}
+
+/// The calls put in before a turn: one in four lists makes one range of two, from a fresh pool first, and another brings coverage to
+/// exact halves.
+fn directed_calls(r: &mut Random, world: &World, seed: u64, turn: u32) -> Vec<Call> {
+    match seed % 4 {
+        1 if turn % 80 == 0 => calls_to_join(r),
+        2 if turn % 40 == 30 => calls_to_half(r, world),
+        _ => Vec::new(),
+    }
 }
 
 /// A list from set up pool on, with two units.
@@ -189,14 +277,9 @@ fn list(second: &mut Second, seed: u64, seen: &mut Seen) -> Result<(), String> {
     both(second, &mut world, Call { kind: OPEN, arguments: [0; 4] })?;
     // one in four lists lets a unit sleep through many removals
     let sleep = seed % 4 == 0;
-    // another brings coverage to exact halves
-    let halves = seed % 4 == 2;
     for turn in 0..160 {
-        if halves && turn % 40 == 30 {
-            for call in calls_to_half(&mut r, &world) {
-                let answer = both(second, &mut world, call).map_err(|e| format!("before call {turn}: {e}"))?;
-                note_half(&world, call, answer, seen);
-            }
+        for call in directed_calls(&mut r, &world, seed, turn) {
+            step(second, &mut world, call, seen).map_err(|e| format!("before call {turn}: {e}"))?;
         }
         let mut call = some_call(&mut r, &world);
         if sleep && turn % 40 == 20 {
@@ -227,7 +310,7 @@ fn list(second: &mut Second, seed: u64, seen: &mut Seen) -> Result<(), String> {
             std::mem::swap(&mut world.unit, &mut other_unit);
         }
         let behind = world.control[1].wrapping_sub(world.unit[SEEN]);
-        let answer = both(second, &mut world, call).map_err(|e| format!("call {turn}: {e}"))?;
+        let answer = step(second, &mut world, call, seen).map_err(|e| format!("call {turn}: {e}"))?;
         seen.note(format!("answer_{}", answer.number));
         if call.kind == TRANSLATE {
             if answer.number == 0 {
@@ -237,7 +320,6 @@ fn list(second: &mut Second, seed: u64, seen: &mut Seen) -> Result<(), String> {
                 seen.note(format!("behind_{behind}"));
             }
         }
-        note_half(&world, call, answer, seen);
     }
     Ok(())
 }
@@ -273,6 +355,17 @@ pub fn compare(lists: u64, first: u64) -> bool {
         "behind_65",
         "half_down",
         "half_up",
+        "preview_0",
+        "preview_5",
+        "preview_6",
+        "preview_8",
+        "preview_10",
+        "preview_11",
+        "preview_14",
+        "preview_joins",
+        "preview_adds",
+        "preview_same_ranges",
+        "preview_several_blocks",
     ];
     let must: Vec<String> = must.iter().map(|w| w.to_string()).collect();
     seen.report(if lists >= 100 { &must } else { &[] })

@@ -37,7 +37,7 @@ fn main() {
 fn planted() -> bool {
     let me = std::env::current_exe().unwrap();
     let mut fine = true;
-    for bug in ["65", "limit", "keep", "half"] {
+    for bug in ["65", "limit", "keep", "half", "before"] {
         let red = ["lists", "damaged"].iter().any(|what| {
             let count = if *what == "lists" { "60" } else { "20000" };
             let out = std::process::Command::new(&me).arg(what).arg(count).env("REFERENCE_BUG", bug).output().unwrap();

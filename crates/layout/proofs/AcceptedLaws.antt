@@ -16,7 +16,7 @@ use Rattle.words.proofs.RowLaws.{accepted-leaves, accepted-none}
 use Rattle.control.specs.Control.{controlBufferWords, removals, recordPlace, withClosed, appended}
 use Rattle.control.proofs.ControlLaws.{SamePlace, mask-length, mask-removals, mask-places, appended-removals, appended-space, appended-first, appended-count, appended-places}
 use Rattle.layout.specs.declared.TableCall.{TableCall}
-use Rattle.layout.specs.declared.TableCall.the-variants.{SetUpPool, Open, Close, Map, Unmap, Protect, Coverage}
+use Rattle.layout.specs.declared.TableCall.the-variants.{SetUpPool, Open, Close, Map, Unmap, Protect, Coverage, Preview}
 use Rattle.layout.specs.Tables.{Tables, rightLengths}
 use Rattle.layout.specs.Plain.{plainOf, tablesOf}
 use Rattle.layout.specs.Changes.{closePlain, unmapPlain, protectPlain}
@@ -34,6 +34,7 @@ in-order (Map s first n rights) T = refl
 in-order (Unmap s first n) T = refl
 in-order (Protect s first n rights) T = refl
 in-order (Coverage s) T = refl
+in-order (Preview s first n rights) T = refl
 
 module _ (c : TableCall) (T : Tables) (o : Outcome) (T′ : Tables) (d : Called c T o T′) where
   pub call-none : accepted o ≡ true → NoneApplies (row T c .refusals)

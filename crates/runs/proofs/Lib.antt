@@ -8,3 +8,4 @@ pub mod RenewLaws
 pub mod CheckLaws
 pub mod PlainLaws
 pub mod ExactLaws
+pub mod RangeCountLaws

@@ -1,9 +1,12 @@
--- Runs and ranges of one space; a range is a range translation of Redundant Memory Mappings. Document 01, Ranges and What the host lends. `ws` are the space's 1,024 page words, `rs` its 512 range words.
+-- Runs and ranges of one space; a range is a range translation of Redundant Memory Mappings. Document 01, Ranges and What the host lends; 02, Change 2. `ws` are the space's 1,024 page words, `rs` its 512 range words.
 use mathlib.Core.Path.{_≡_}
-use mathlib.Core.Bool.{true}
+use mathlib.Core.Bool.{Bool, true, false, not}
 use mathlib.Core.List.{List, [], _∷_, _++_}
-use Prim.Native.Nat.{ℕ, suc, _+_, _-_, _^_, _≤_, _<_}
+use Prim.Native.Nat.{ℕ, suc, _+_, _-_, _*_, _^_, _≤_, _<_}
+use lib.Dec.{eqb}
 use lib.ListN.{length, getD, replicate}
+use Rattle.words.specs.Counts.{count}
+use Rattle.words.specs.Searches.{anyFrom}
 use Rattle.words.specs.Wrapping.{wordBits, wrapAdd}
 use Rattle.runs.specs.PageWords.{mapped, rangeBit, rightsIn, frameIn, isPageWord}
 
@@ -73,3 +76,24 @@ pub record RangesSound (ws rs : List ℕ) : Type 0 where
   -- each used entry is a range, and each range has its entry
   pub listed : Table ws 0 used
   pub all : (x y : ℕ) → Longest ws x y → x + smallestRange ≤ y → Has x y used
+
+-- "unused ones are zero": entry k of the range table is used where one of its words is not zero
+unfoldable pub usedEntry : List ℕ → ℕ → Bool
+usedEntry rs k = anyFrom wordsInTableEntry (wordsInTableEntry * k) (λ i. not (eqb (getD rs i 0) 0))
+
+-- "the space's count of ranges": the used entries (statement, in layout: `CountIsOfRanges`)
+unfoldable pub rangeCount : List ℕ → ℕ
+rangeCount rs = count rangesInSpace (usedEntry rs)
+
+-- page x is the first page of one of "the longest runs of at least 8 pages"
+pub record RangeFrom (ws : List ℕ) (x : ℕ) : Type 0 where
+  pub end : ℕ
+  pub longest : Longest ws x end
+  pub eight : x + smallestRange ≤ end
+
+-- a space has n of "the longest runs of at least 8 pages": as many as there are pages at which one begins, for no two begin at one page
+pub record RangesCounted (ws : List ℕ) (n : ℕ) : Type 0 where
+  pub begins : ℕ → Bool
+  pub yes : (x : ℕ) → begins x ≡ true → RangeFrom ws x
+  pub no : (x : ℕ) → begins x ≡ false → RangeFrom ws x → ⊥
+  pub counted : n ≡ count (length ws) begins

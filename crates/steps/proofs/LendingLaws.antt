@@ -4,7 +4,6 @@ use mathlib.Core.List.{List, _++_}
 use Prim.Native.Nat.{ℕ, _+_, _-_, _*_, _≤_}
 use native.Mathlib.Omega.{arith}
 use lib.ListN.{length, take, drop}
-use Rattle.words.specs.Tables.{part}
 use Rattle.words.proofs.TableLaws.{length-imap}
 use Rattle.runs.specs.Walk.{withBits, rangeWords}
 use Rattle.runs.proofs.WalkLaws.{length-withBits}
@@ -14,7 +13,7 @@ use Rattle.blocks.specs.Owners.{give}
 use Rattle.layout.specs.Tables.{spacePages, ownerAt}
 use Rattle.layout.specs.Changes.{Rewritten, mapWords, unmapWords, mappedIn, protectWords, differing}
 use Rattle.layout.proofs.SoundLaws.{space-room}
-use Rattle.layout.proofs.SpaceLaws.{part-length}
+use Rattle.layout.proofs.SpaceLaws.{part-length, lent-part}
 use Rattle.layout.proofs.PlainLaws.{rangeWords-long}
 use Rattle.layout.proofs.StepLaws.{lent-is}
 use Rattle.steps.specs.Inner.{MapStep, UnmapStep, ProtectStep}
@@ -23,8 +22,8 @@ module _ (ps rs : List ℕ) (lp : length ps ≡ 4096) (lr : length rs ≡ 2048) 
     (pe : ps′ ≡ take (1024 * s) ps ++ (ws ++ drop ((1024 * s + 1024) - 1024 * s) (drop (1024 * s) ps)))
     (re : rs′ ≡ take (512 * s) rs ++ (es ++ drop ((512 * s + 512) - 512 * s) (drop (512 * s) rs))) where
   lent-is-space : take ((1024 * s + 1024) - 1024 * s) (drop (1024 * s) ps) ≡ spacePages ps s
-  unfolding spacePages part
-  lent-is-space = let n : (1024 * s + 1024) - 1024 * s ≡ 1024 = omega arith in rw n
+  unfolding spacePages
+  lent-is-space = lent-part 1024 s ps
 
   space-long : length (spacePages ps s) ≡ 1024
   unfolding spacePages

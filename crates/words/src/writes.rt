@@ -1,4 +1,5 @@
 // Writes over stretches of lent words.
+ghost use mathlib.Core.Path.{_≡_};
 ghost use Prim.Native.Nat.{_≤_};
 ghost use lib.ListN.{length};
 ghost use Rattle.words.specs.Inner.{Filled};
@@ -12,6 +13,19 @@ pub fn fill(words: &mut [u32], from: usize, end: usize, v: u32)
     let mut g = from;
     while g < end {
         words[g] = v;
+        g += 1;
+    }
+}
+
+// Makes the words the same as `from`.
+pub fn copy(words: &mut [u32], from: &[u32])
+    requires { ⌜ length (now words) ≡ length (now from) ⌝ }
+    ensures { λ _. ⌜ now (words .exit) ≡ now (from .entry) ⌝ }
+{
+    let end = from.len();
+    let mut g = 0;
+    while g < end {
+        words[g] = from[g];
         g += 1;
     }
 }

@@ -1,0 +1,2 @@
+pub mod UsedLaws
+pub mod TryLaws
