@@ -1,4 +1,4 @@
-// The two tables that are written: a line for each pool and a cell for each call, then a line for each state of the page tables.
+// The three tables that are written: a line for each pool and a cell for each call, then a line for each state of the page tables, then a line for each span that is mapped and previewed.
 use crate::pool_calls::Request;
 use crate::pools::Filling;
 use libc::STDOUT_FILENO;
@@ -51,6 +51,19 @@ pub fn begin_tables(mapped: u32) {
     } else {
         text(b"full");
     }
+}
+
+pub fn preview_heading() {
+    text(b"\nF | broken up | n | refused | map | preview\n-|-|-|-|-|-\n");
+}
+
+// The first three cells of a line of a map and its preview: the pool's size, how many of its frames were broken up, and how many pages are asked for.
+pub fn begin_span(pool: u32, held: u32, n: u32) {
+    decimal(pool as u64);
+    bar();
+    decimal(held as u64);
+    bar();
+    decimal(n as u64);
 }
 
 pub fn end() {

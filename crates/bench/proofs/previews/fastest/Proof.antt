@@ -1,0 +1,75 @@
+use Prim.Native.Nat.{_-_}
+use borrow.Author.Needs.{needs}
+use Rattle.bench.proofs.previews.fastest.Statement.{statement}
+use Rattle.bench.proofs.previews.fastest.Tie as tie
+
+abbrev Inv-loop : tie.InvT-loop
+Inv-loop rounds control frames pages ranges n refused₀ map₀ preview₀ counter₀ refused map preview counter =
+    Unit
+
+abbrev μ-loop : tie.MeasureT-loop
+μ-loop rounds control frames pages ranges n refused₀ map₀ preview₀ counter₀ refused map preview counter =
+    rounds - counter
+
+hundred-requires : tie.Need-hundred-requires Inv-loop μ-loop
+hundred-requires c κs = search needs
+
+hundred-requires-2 : tie.Need-hundred-requires-2 Inv-loop μ-loop
+hundred-requires-2 c κs = search needs
+
+hundred-requires-3 : tie.Need-hundred-requires-3 Inv-loop μ-loop
+hundred-requires-3 c κs = search needs
+
+loop-holds : tie.Need-loop-holds Inv-loop μ-loop
+loop-holds c = search needs
+
+hundred-requires-4 : tie.Need-hundred-requires-4 Inv-loop μ-loop
+hundred-requires-4 c κs = search needs
+
+least-requires : tie.Need-least-requires Inv-loop μ-loop
+least-requires c κs = search needs
+
+hundred-requires-5 : tie.Need-hundred-requires-5 Inv-loop μ-loop
+hundred-requires-5 c κs = search needs
+
+least-requires-2 : tie.Need-least-requires-2 Inv-loop μ-loop
+least-requires-2 c κs = search needs
+
+hundred-requires-6 : tie.Need-hundred-requires-6 Inv-loop μ-loop
+hundred-requires-6 c κs = search needs
+
+least-requires-3 : tie.Need-least-requires-3 Inv-loop μ-loop
+least-requires-3 c κs = search needs
+
+add-counter : tie.Need-add-counter Inv-loop μ-loop
+add-counter c = search needs
+
+loop-less : tie.Need-loop-less Inv-loop μ-loop
+loop-less c = search needs
+
+loop-again : tie.Need-loop-again Inv-loop μ-loop
+loop-again c = search needs
+
+returns : tie.Need-returns Inv-loop μ-loop
+returns c = search needs
+
+pub fastest-spec : {M : Type 1} → statement M
+fastest-spec =
+    tie.close
+    (tie.spec
+    Inv-loop
+    μ-loop
+    hundred-requires
+    hundred-requires-2
+    hundred-requires-3
+    loop-holds
+    hundred-requires-4
+    least-requires
+    hundred-requires-5
+    least-requires-2
+    hundred-requires-6
+    least-requires-3
+    add-counter
+    loop-less
+    loop-again
+    returns)
