@@ -7,6 +7,7 @@ pub mod HeldLaws
 pub mod SearchedLaws
 pub mod TakeLaws
 pub mod AllocateLaws
+pub mod MarkLaws
 pub mod FreeLaws
 pub mod CallLaws
 pub mod Published

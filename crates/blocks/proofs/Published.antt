@@ -7,7 +7,7 @@ use Prim.Native.Nat.{ℕ, _+_, _-_, _^_, _<_, _≤_, zero-le}
 use native.Mathlib.Nat.{add-zero, zero-add}
 use native.Mathlib.Decide.{decLt}
 use native.Mathlib.Omega.{arith}
-use lib.ListN.{length, getD}
+use lib.ListN.{length, getD, replicate}
 use lib.Pow.{pow-pos}
 use Rattle.words.specs.Counts.{count}
 use Rattle.words.specs.Searches.{anyFrom}
@@ -18,12 +18,13 @@ use Rattle.blocks.specs.declared.Chosen.{Chosen}
 use Rattle.blocks.specs.FrameWords.{isPoolSize, isOwner, ownerOf, ownersOf, freeOf, freeIn, lawful, frameWords}
 use Rattle.blocks.specs.Choice.{takeBlock, takeBlocks, framesOf, blocksFor, framesFor, blockCount}
 use Rattle.blocks.specs.Owners.{give, inSpan, freed, holds}
-use Rattle.blocks.specs.Inner.Taking.{Searched, nothingKnown, BlockTaken}
+use Rattle.blocks.specs.Inner.Taking.{Searched, nothingKnown, BlockTaken, Stands, Previewed, BlockMarked}
 use Rattle.blocks.proofs.WordLaws.{owners-small, lawful-is, lawful-yes, table-lawful}
 use Rattle.blocks.proofs.WordLaws
 use Rattle.blocks.proofs.ChoiceLaws.{Good, takes-good, takes-all, Taking, taking, one, end, frame-first, frame-rest, takeBlocks-same}
 use Rattle.blocks.proofs.SearchedLaws.{nothing-known}
 use Rattle.blocks.proofs.AllocateLaws.{Rest, rest-of}
+use Rattle.blocks.proofs.MarkLaws.{nothing-marked}
 use Rattle.blocks.proofs.FreeLaws.{cleared-in, cleared-out, given-at, given-other, freed-again, nobody-holds}
 
 -- frames that a request of n pages takes
@@ -242,6 +243,30 @@ module _ (F : ℕ) (b₀ : List ℕ) (o n : ℕ) (b : List ℕ) (done blocks : �
     pub all-words : b ≡ frameWords F (give (ownersOf b₀) o (framesFor F (freeIn b₀) n))
     unfolding framesFor blocksFor takeBlocks framesOf give
     all-words = own-table F b (s .lawful) ∙ ap (frameWords F) (sym (s .owners-are ∙ rw none-left refl))
+
+-- the same request with marks in place of written words: b are the words lent, and the marks m stand for the words that it would have by now. Owners stand in no word lent, so any do
+pub record Trying (F : ℕ) (b : List ℕ) (n : ℕ) (m : List ℕ) (done blocks : ℕ) (known : Bound) : Type 0 where
+  pub words : List ℕ
+  pub going : Going F b 1 n words done blocks known
+  pub stands : Stands F b m words
+
+pub trying-start : (F : ℕ) (b : List ℕ) (n : ℕ) (known : Bound) → lawful F b ≡ true → n ≤ count F (freeIn b) → n ≤ 4096 → known ≡ nothingKnown → Trying F b n (replicate 22 0) 0 0 known
+trying-start F b n known lw enough few e = record { words = b; going = going-start F b 1 n known lw enough (omega arith) (omega arith) e; stands = nothing-marked F b 22 lw }
+
+module _ (F : ℕ) (b : List ℕ) (n : ℕ) (m : List ℕ) (done blocks : ℕ) (known : Bound) (s : Trying F b n m done blocks known) where
+  -- what the next block asks
+  pub trying-asks : Previewed F b m (n - done) known
+  trying-asks = record { words = s .words; stands = s .stands; searched = s .going .searched; enough = s .going .enough }
+
+  module _ (lt : done < n) (r : Chosen) (m′ : List ℕ) (t : BlockMarked F b m (n - done) known r m′) where
+    next : (w : List ℕ) × BlockTaken F (s .words) (1 + done) (n - done) r w × Stands F b m′ w
+    next = let o = s .going .owners in t .marked (s .words) (1 + done) (s .stands) (s .going .searched) (s .going .enough) (omega arith) (omega (arith, o .1))
+
+    pub trying-placed : Placed F (framesFor F (freeIn b) n) n done (r .block)
+    trying-placed = next-placed F b 1 n (s .words) done blocks known (s .going) lt r (next .0) (next .1)
+
+    pub trying-on : (z : ℕ) → z ≡ 2 ^ (r .block .order) → Trying F b n m′ (done + z) (blocks + 1) (r .known)
+    trying-on z ze = record { words = next .0; going = going-on F b 1 n (s .words) done blocks known (s .going) lt r (next .0) (next .1) z ze; stands = next .2 }
 
 -- the frames of a block, from its start on
 pub block-frames : (x : Block) (t : ℕ) → t < 2 ^ (x .order) → getD (framesOf (x ∷ [])) t 0 ≡ x .start .0 + t

@@ -221,7 +221,7 @@ module _ (F : ℕ) (free : ℕ → Bool) (k f : ℕ) where
   unfolding lowest
   clear-found c h t = first-unique F 0 (freeBlock F free k) f zero-le (omega arith) t (λ j lo hi. c .none-at j hi)
 
-  found-clear : lowest F free k ≡ some f → Clear F free k f
+  pub found-clear : lowest F free k ≡ some f → Clear F free k f
   unfolding lowest
   found-clear e = go (firstFrom F 0 (freeBlock F free k)) e (firstFrom-is F 0 (freeBlock F free k))
     where
@@ -302,6 +302,15 @@ module _ (F : ℕ) (free : ℕ → Bool) where
   unfolding takeFrom
   from-is i x none e = none-some x none refl e
   from-is i x (some j) e = let q = cut-is i x (lowest F free j) e in (q .0, (j, refl, q .1))
+
+  -- the free block that is cut: it has the smallest order that serves, and is the lowest of it
+  pub cut-from : (left : ℕ) (x : Block) → takeBlock F free left ≡ some x → (j : ℕ) × (serving F free (x .order) ≡ some j) × (lowest F free j ≡ some (x .start .0))
+  unfolding takeBlock takeOrder
+  cut-from left x e = go (orderFor F free left) e
+    where
+      go : (o : Option ℕ) → takeOrder F free o ≡ some x → (j : ℕ) × (serving F free (x .order) ≡ some j) × (lowest F free j ≡ some (x .start .0))
+      go none eo = none-some x none refl eo
+      go (some i) eo = let p = from-is i x (serving F free i) eo in (p .1 .0, ap (serving F free) (p .0) ∙ p .1 .1, p .1 .2)
 
   -- a block below the order that fits: no larger order has one, and it is the first of its order
   lower : (left w : ℕ) (x : Block) → Within left w → takeBlock F free left ≡ some x → x .order < w → NoneAbove F free (x .order) × (lowest F free (x .order) ≡ some (x .start .0))

@@ -136,7 +136,7 @@ module _ (F : ℕ) (owner : ℕ → ℕ) (i j s o : ℕ) (i≤j : i ≤ j) (top 
 
 module _ (F : ℕ) (b : List ℕ) (l : Lawful F b) (i j s o : ℕ) (i≤j : i ≤ j) (blk : BlockAt F (freeIn b) j s) (pos : 1 ≤ o) where
   -- a frame of the block that was not its first had the word 8192
-  old-word : (g : ℕ) → s < g → g < s + 2 ^ j → getD b g 0 ≡ 8192
+  pub old-word : (g : ℕ) → s < g → g < s + 2 ^ j → getD b g 0 ≡ 8192
   unfolding freeIn
   old-word g lo hi =
       let st = blk .aligned in
@@ -147,6 +147,40 @@ module _ (F : ℕ) (b : List ℕ) (l : Lawful F b) (i j s o : ℕ) (i≤j : i �
       let lt = p .0 in
       let sg = start-same j s g e in
       l .words g (omega arith) ∙ free-frame F (ownersOf b) g lt (free-zero b g (p .1)) ∙ ap (orderWord g) lv ∙ other-word g j (λ x. omega arith)
+
+  -- a frame outside the block keeps its word
+  pub kept-word : (g : ℕ) → g < 4096 → (g / 2 ^ j ≡ s / 2 ^ j → ⊥) → frameWord F (handed (ownersOf b) i s o) g ≡ getD b g 0
+  unfolding freeIn
+  kept-word g h away = outside-word F (ownersOf b) i j s o i≤j (blk .maximal) (blk .aligned) pos g away ∙ sym (l .words g h)
+
+  -- the upper half of order k starts a free block
+  pub half-word : (k : ℕ) → i ≤ k → k < j → frameWord F (handed (ownersOf b) i s o) (s + 2 ^ k) ≡ 16384 + k
+  unfolding freeIn
+  half-word k ik kj = half-start F (ownersOf b) i j s o i≤j (blk .maximal) (blk .aligned) pos k ik kj
+
+  -- and in the block nothing else does
+  pub word-half : (g k : ℕ) → s ≤ g → g < s + 2 ^ j → o + 2 ^ i ≤ 4097 → frameWord F (handed (ownersOf b) i s o) g ≡ 16384 + k → (i ≤ k) × (k < j) × (g ≡ s + 2 ^ k)
+  unfolding freeIn
+  word-half g k lo hi room e =
+      let st = blk .aligned in
+      let mine : g / 2 ^ j ≡ s / 2 ^ j = block-in j s g (omega arith) (omega arith) in
+      let p = around-at F (freeIn b) j s (blk .maximal .whole) g mine in
+      by-dec (decLt g (s + 2 ^ i))
+      (λ low.
+      let sti : startOf i s ≡ s = finer i j s i≤j st in
+      let w = taken-word F (ownersOf b) i j s o i≤j (blk .maximal) st pos g (p .0) (block-in i s g (omega arith) (omega arith)) in
+      absurd (omega arith))
+      (λ high.
+      let r = which-half i j s g i≤j (omega arith) hi in
+      by-dec (ℕ-discrete g (s + 2 ^ (r .0)))
+      (λ at.
+      let w = half-word (r .0) (r .1) (r .2) in
+      let w′ : frameWord F (handed (ownersOf b) i s o) g ≡ 16384 + r .0 = ap (frameWord F (handed (ownersOf b) i s o)) at ∙ w in
+      let same : r .0 ≡ k = omega arith in
+      (omega (arith, r .1), omega (arith, r .2), at ∙ ap (λ (y : ℕ). s + 2 ^ y) same))
+      (λ off.
+      let w = half-other F (ownersOf b) i j s o i≤j (blk .maximal) st pos (r .0) (r .1) (r .2) g (omega (arith, r .3)) (r .4) in
+      absurd (omega arith)))
 
   taken-words : (b1 b2 : List ℕ) → length b2 ≡ 4096 → CountedUp b s (s + 2 ^ i) o b1 → Halved b1 s i j b2 → b2 ≡ frameWords F (handed (ownersOf b) i s o)
   unfolding frameWords freeIn
@@ -166,7 +200,7 @@ module _ (F : ℕ) (b : List ℕ) (l : Lawful F b) (i j s o : ℕ) (i≤j : i �
 
       outer : (g : ℕ) → g < 4096 → (g / 2 ^ j ≡ s / 2 ^ j → ⊥) → getD b1 g 0 ≡ getD b g 0 → ((m : ℕ) → i ≤ m → m < j → g ≡ s + 2 ^ m → ⊥)
           → getD b2 g 0 ≡ frameWord F (handed (ownersOf b) i s o) g
-      outer g h away e n = hv .others g n ∙ e ∙ l .words g h ∙ sym (outside-word F (ownersOf b) i j s o i≤j top (blk .aligned) pos g away)
+      outer g h away e n = hv .others g n ∙ e ∙ sym (kept-word g h away)
 
       inner : (g : ℕ) → g < 4096 → s ≤ g → g < s + 2 ^ i → getD b2 g 0 ≡ frameWord F (handed (ownersOf b) i s o) g
       inner g h lo hi =
@@ -188,7 +222,7 @@ module _ (F : ℕ) (b : List ℕ) (l : Lawful F b) (i j s o : ℕ) (i≤j : i �
           let qi : 2 ^ i ≤ 2 ^ k = pow-mono ik in
           let pk : 0 < 2 ^ k = pow-pos k in
           by-dec (ℕ-discrete g (s + 2 ^ k))
-          (λ e. rw e (hv .halves k ik kj ∙ sym (half-start F (ownersOf b) i j s o i≤j top (blk .aligned) pos k ik kj)))
+          (λ e. rw e (hv .halves k ik kj ∙ sym (half-word k ik kj)))
           (λ ne. hv .others g (λ m a c x. by-dec (decLe m k)
           (λ mk. let z : 2 ^ m ≤ 2 ^ k = pow-mono mk in omega arith)
           (λ km. let z : 2 ^ suc k ≤ 2 ^ m = pow-mono (omega arith) in omega arith))

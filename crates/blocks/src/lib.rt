@@ -18,6 +18,12 @@ pub const FREE_OTHER: u32 = 8192;
 
 pub const NO_FRAME: u32 = 65535;
 
+// The orders of blocks are 0 to 10.
+pub const ORDERS: u32 = 11;
+
+// The words of the marks: one for each order, and then a second one for each.
+pub const MARK_WORDS: usize = 22;
+
 // A frame number. A virtual page number never stands in its place.
 pub struct Frame(pub u32);
 
@@ -25,6 +31,12 @@ pub struct Frame(pub u32);
 pub struct Block {
     pub start: Frame,
     pub order: u32,
+}
+
+// A block, and the order of the free block that it begins.
+pub struct Cut {
+    pub block: Block,
+    pub top: u32,
 }
 
 // What earlier searches have shown: no free block has an order above `limit`, and none of that order starts below `from`.

@@ -4,5 +4,6 @@ pub use framewords::owners::count_free;
 pub use merging::fresh;
 pub use merging::judge;
 pub use merging::release;
+pub use splitting::mark_block;
 pub use splitting::nothing_known;
 pub use splitting::take_block;

@@ -1,31 +1,28 @@
--- The used entries of a lawful range table are as many as the longest runs of at least 8 pages.
+-- The used entries of a lawful range table come first, and are as many as the longest runs of at least 8 pages.
 use mathlib.Core.Path.{_≡_, refl, ap, _∙_, sym}
 use mathlib.Core.Bool.{Bool, true, false, not}
 use mathlib.Core.List.{List, [], _∷_, _++_}
-use Prim.Native.Nat.{ℕ, zero, suc, _+_, _*_, _<_, _≤_}
-use native.Mathlib.Decide.{decLt, ℕ-discrete}
+use Prim.Native.Nat.{ℕ, zero, suc, _+_, _-_, _*_, _<_, _≤_}
 use native.Mathlib.Omega.{arith}
 use lib.Dec.{eqb}
-use lib.ListN.{length, getD, replicate, length-append, length-replicate, getD-replicate, List·getD-eq-default}
-use borrow.Author.Tests.{eq-eqb, ne-eqb, eqb-true, eqb-false}
+use lib.ListN.{length, getD, replicate, length-append}
+use borrow.Author.Tests.{eq-eqb, ne-eqb, eqb-true}
 use Rattle.words.specs.Counts.{count, one-if}
 use Rattle.words.specs.Searches.{anyFrom}
-use Rattle.words.proofs.Cases.{by-dec, by-test, true-false}
+use Rattle.words.proofs.Cases.{by-test, true-false}
 use Rattle.words.proofs.CountLaws.{count-split, count-ext, count-add-one, none-pass}
-use Rattle.words.proofs.SearchLaws.{any-at, at-any, any-none}
+use Rattle.words.proofs.SearchLaws.{at-any, any-none}
+use Rattle.words.proofs.TableLaws.{all-default}
+use Rattle.runs.specs.Walk.{entries, rangeWords}
+use Rattle.runs.specs.Inner.{UsedFirst}
+use Rattle.runs.proofs.RunsLaws.{table-is}
 use Rattle.runs.specs.Runs.{Longest, Table, nothing, entry, Has, here, later, RangesSound, usedEntry, rangeCount, RangeFrom, RangesCounted}
 
 -- used entries
 
-zeros-at : (n i : ℕ) → _≡_ {A = ℕ} (getD (replicate n 0) i 0) 0
-zeros-at n i =
-    by-dec (decLt i n)
-    (λ h. getD-replicate n i 0 0 h)
-    (λ h. List·getD-eq-default (replicate n 0) 0 (omega (arith, length-replicate {A = ℕ} n 0)))
-
 unused-zeros : (n k : ℕ) → usedEntry (replicate n 0) k ≡ false
 unfolding usedEntry
-unused-zeros n k = any-none 4 (4 * k) _ (λ i lo hi. ap (λ (w : ℕ). not (eqb w 0)) (zeros-at n i))
+unused-zeros n k = any-none 4 (4 * k) _ (λ i lo hi. ap (λ (w : ℕ). not (eqb w 0)) (all-default n i 0))
 
 -- an entry whose LIMIT is not 0 is used
 used-first : (x y o r : ℕ) (more : List ℕ) → 1 ≤ y → usedEntry (x ∷ y ∷ o ∷ r ∷ more) 0 ≡ true
@@ -33,9 +30,9 @@ unfolding usedEntry
 used-first x y o r more h = at-any 4 (4 * 0) _ 1 (omega arith) (omega arith) (ap not (ne-eqb y 0 (λ e. omega arith)))
 
 -- entries behind the first
-used-later : (x y o r : ℕ) (more : List ℕ) (k : ℕ) → usedEntry (x ∷ y ∷ o ∷ r ∷ more) (1 + k) ≡ usedEntry more k
+used-later : (x y o r : ℕ) (more : List ℕ) (k j : ℕ) → j ≡ 1 + k → usedEntry (x ∷ y ∷ o ∷ r ∷ more) j ≡ usedEntry more k
 unfolding usedEntry anyFrom
-used-later x y o r more k = let e : 4 * (1 + k) ≡ suc (suc (suc (suc (4 * k)))) = omega arith in rw e
+used-later x y o r more k j next = let e : 4 * j ≡ suc (suc (suc (suc (4 * k)))) = omega arith in rw e
 
 one-used : (x y o r : ℕ) (more : List ℕ) → 1 ≤ y → count 1 (usedEntry (x ∷ y ∷ o ∷ r ∷ more)) ≡ 1
 unfolding count one-if
@@ -46,7 +43,7 @@ count-later n x y o r more h =
     let all = usedEntry (x ∷ y ∷ o ∷ r ∷ more) in
     let e : 1 + n ≡ suc n = omega arith in
     let parts : count (suc n) all ≡ count 1 all + count n (λ k. all (1 + k)) = rw e at (count-split 1 n all) in
-    omega (arith, one-used x y o r more h, count-ext n (λ k. all (1 + k)) (usedEntry more) (λ k hk. used-later x y o r more k))
+    omega (arith, one-used x y o r more h, count-ext n (λ k. all (1 + k)) (usedEntry more) (λ k hk. used-later x y o r more k (1 + k) refl))
 
 module _ (ws : List ℕ) where
   -- an entry of the table has BASE z
@@ -92,6 +89,19 @@ module _ (ws : List ℕ) where
   used-bases (entry x y o r {more} lo eight g w t) u (suc n) h =
       let first : count (suc n) (usedEntry (x ∷ y ∷ o ∷ r ∷ more ++ replicate u 0)) ≡ suc (count n (usedEntry (more ++ replicate u 0))) = count-later n x y o r (more ++ replicate u 0) (omega arith) in
       first ∙ ap suc (used-bases t u n (omega arith)) ∙ sym (one-more x y o r lo eight g w t)
+
+  -- no entry behind an unused one is used
+  none-behind : {a : ℕ} {l : List ℕ} → Table ws a l → (u k j : ℕ) → k ≤ j → usedEntry (l ++ replicate u 0) k ≡ false → usedEntry (l ++ replicate u 0) j ≡ false
+  none-behind nothing u k j h f = unused-zeros u j
+  none-behind (entry x y o r {more} lo eight g w t) u zero j h f = true-false _ (used-first x y o r (more ++ replicate u 0) (omega arith)) f
+  none-behind (entry x y o r {more} lo eight g w t) u (suc k) zero h f = absurd (omega arith)
+  none-behind (entry x y o r {more} lo eight g w t) u (suc k) (suc j) h f =
+      let rest = more ++ replicate u 0 in
+      used-later x y o r rest j (suc j) (omega arith) ∙ none-behind t u k j (omega arith) (sym (used-later x y o r rest k (suc k) (omega arith)) ∙ f)
+
+  pub used-come-first : length ws ≡ 1024 → UsedFirst (rangeWords ws)
+  unfolding rangeWords
+  used-come-first size = record { none-after = λ k j h f. none-behind (table-is ws (omega arith)) (512 - length (entries ws)) k j h f }
 
   pub ranges-counted : (rs : List ℕ) (n : ℕ) → length rs ≡ 512 → RangesSound ws rs → n ≡ rangeCount rs → RangesCounted ws n
   unfolding rangeCount

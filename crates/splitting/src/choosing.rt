@@ -3,14 +3,17 @@ ghost use mathlib.Core.Path.{_≡_};
 ghost use mathlib.Core.Bool.{true};
 ghost use mathlib.Core.Option.{some};
 ghost use Prim.Native.Nat.{_≤_};
-ghost use Rattle.blocks.specs.FrameWords.{freeIn, lawful};
-ghost use Rattle.blocks.specs.Choice.{takeBlock};
-ghost use Rattle.blocks.specs.Inner.Taking.{Searched, nothingKnown};
-ghost use Rattle.blocks.specs.Inner.Passes.{orderWithin, orderAt, least, asBlock, scanFrom, boundAfter};
+ghost use lib.ListN.{getD};
+ghost use Rattle.blocks.specs.Blocks.{largestOrder, block};
+ghost use Rattle.blocks.specs.FrameWords.{lawful};
+ghost use Rattle.blocks.specs.Inner.Taking.{nothingKnown};
+ghost use Rattle.blocks.specs.Inner.Passes.{orderWithin, orderAt, least, greatest, scanFrom, Chooses, boundAfter};
 use blocks::Block;
 use blocks::Bound;
+use blocks::Cut;
 use blocks::FREE_FIRST;
 use blocks::Frame;
+use blocks::ORDERS;
 use framewords::buffer::size_of;
 use framewords::buffer::start_of;
 
@@ -54,6 +57,15 @@ fn least(a: u32, b: u32) -> u32
     b
 }
 
+pub fn greatest(a: u32, b: u32) -> u32
+    ensures { λ r. ⌜ r ≡ greatest a b ⌝ }
+{
+    if a < b {
+        return b;
+    }
+    a
+}
+
 // The frame from which the scan for order k starts.
 fn scan_from(known: Bound, k: u32) -> Frame
     ensures { λ r. ⌜ r .0 ≡ scanFrom known k ⌝ }
@@ -64,12 +76,34 @@ fn scan_from(known: Bound, k: u32) -> Frame
     Frame(0)
 }
 
-// The block that is taken for `left` pages, where earlier searches have shown `known`; order 11 says that there is none.
-pub fn choose(frames: &[u32], pool: u32, left: u32, known: Bound) -> Block
+// Mark k; a word that is not there says, as 0 does, that nothing is taken.
+pub fn mark_at(marks: &[u32], k: u32) -> u32
+    ensures { λ r. ⌜ r ≡ getD (now (marks .entry)) k 0 ⌝ }
+{
+    let at = k as usize;
+    if at < marks.len() {
+        return marks[at];
+    }
+    0
+}
+
+// The block of this order that begins the free block of order `top` at s.
+fn cut_at(s: Frame, order: u32, top: u32) -> Cut
+    ensures { λ r. ⌜ r .block ≡ block order (s .0) ⌝ }
+    ensures { λ r. ⌜ r .top ≡ top ⌝ }
+{
+    Cut {
+        block: Block { start: s, order },
+        top,
+    }
+}
+
+// The block that is taken for `left` pages, where earlier searches have shown `known` and the marks say what is taken already; order 11 says that there is none.
+pub fn choose(frames: &[u32], pool: u32, left: u32, known: Bound, marks: &[u32]) -> Cut
     requires { ⌜ lawful pool (now frames) ≡ true ⌝ }
     requires { ⌜ 1 ≤ left ⌝ }
-    requires { ⌜ Searched pool (freeIn (now frames)) known ⌝ }
-    ensures { λ r. ⌜ r ≡ asBlock (takeBlock pool (freeIn (now (frames .entry))) left) ⌝ }
+    requires { ⌜ known .limit ≤ largestOrder ⌝ }
+    ensures { λ r. ⌜ Chooses pool (now (frames .entry)) (now (marks .entry)) left known r ⌝ }
 {
     let limit = known.limit;
     let within = order_within(left);
@@ -77,26 +111,26 @@ pub fn choose(frames: &[u32], pool: u32, left: u32, known: Bound) -> Block
     let chosen = 'search: loop {
         for t in 0..limit + 1 {
             let k = order_at(limit, top, t);
+            let order = least(k, top);
+            // A half is left only where no other block of its order is.
+            let half = mark_at(marks, ORDERS + k);
+            if half != 0 {
+                break 'search cut_at(Frame(half - 1), order, k);
+            }
+            let taken = mark_at(marks, k);
             let from = scan_from(known, k);
             let size = size_of(k);
             // A block of order k starts only at a multiple of its size.
             let first = start_of(from, k);
-            let mut f = first.0;
+            let mut f = greatest(first.0, taken);
             while f < pool {
                 if frames[f as usize] == FREE_FIRST + k {
-                    let order = least(k, top);
-                    break 'search Block {
-                        start: Frame(f),
-                        order: order,
-                    };
+                    break 'search cut_at(Frame(f), order, k);
                 }
                 f += size;
             }
         }
-        break Block {
-            start: Frame(0),
-            order: 11,
-        };
+        break cut_at(Frame(0), 11, 0);
     };
     chosen
 }

@@ -62,7 +62,9 @@ pub fn take_block(frames: &mut [u32], pool: u32, owner: u32, left: u32, known: B
     requires { ⌜ Searched pool (freeIn (now frames)) known ⌝ }
     ensures { λ r. ⌜ BlockTaken pool (now (frames .entry)) owner left r (now (frames .exit)) ⌝ }
 {
-    let b = choose(frames, pool, left, known);
+    let nothing_taken = [0u32; 1];
+    let cut = choose(frames, pool, left, known, &nothing_taken);
+    let b = cut.block;
     take_at(frames, pool, b, owner);
     Chosen {
         block: b,

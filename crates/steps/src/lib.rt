@@ -1,5 +1,6 @@
 // The steps that alter pages. Each is lent the buffers of all spaces and lends on one space's 1,024 page words and 512 range words, where the words of a span change and range bits and range words are rebuilt.
 mod mapping;
+mod previewing;
 mod protecting;
 mod unmapping;
 
@@ -14,7 +15,8 @@ ghost use Rattle.blocks.specs.Choice.{framesFor, blockCount};
 ghost use Rattle.blocks.specs.Owners.{give};
 ghost use Rattle.layout.specs.Tables.{pageBufferWords, rangeBufferWords, spacePages, ownerAt};
 ghost use Rattle.layout.specs.Changes.{Rewritten, mapWords, unmapWords, mappedIn, protectWords, differing};
-pub use crate::mapping::map_space;
+use crate::mapping::map_space;
+pub use crate::previewing::preview_space;
 use crate::protecting::protect_space;
 use crate::unmapping::unmap_space;
 use runs::PAGE_WORDS;

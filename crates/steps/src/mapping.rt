@@ -22,7 +22,7 @@ use ranges::renew::renew;
 use runs::Page;
 
 // Writes the words of the pages from the first on, one for each frame of the block.
-fn write_block(part: &mut [u32], first: Page, rights: u32, b: Block)
+pub fn write_block(part: &mut [u32], first: Page, rights: u32, b: Block)
     requires { ⌜ length (now part) ≡ pagesInSpace ⌝ }
     requires { ⌜ b .order ≤ 10 ⌝ }
     requires { ⌜ b .start .0 + 2 ^ (b .order) ≤ largestPool ⌝ }

@@ -11,10 +11,13 @@ use Rattle.words.specs.Searches.{anyFrom, largest}
 use Rattle.words.specs.Inner.{ChangedTo}
 use Rattle.blocks.specs.declared.Block.{Block}
 use Rattle.blocks.specs.declared.Bound.{Bound}
+use Rattle.blocks.specs.declared.Cut.{Cut}
 use Rattle.blocks.specs.Blocks.{largestOrder, orders, block, inBlock}
 use Rattle.blocks.specs.FrameWords.{ownersOf, freeIn, ownedIn, firstOf, frameWord}
+use Rattle.blocks.specs.Choice.{takeBlock}
 use Rattle.blocks.specs.Owners.{cleared}
 use Rattle.blocks.specs.Inner.Around.{startOf, around}
+use Rattle.blocks.specs.Inner.Taking.{Searched, Stands, fromOf, halfOf}
 
 -- Settling and checking, block after block
 
@@ -60,6 +63,9 @@ orderAt limit top t = elim (leb (top + t) limit) [ true ↦ top + t | false ↦ 
 unfoldable pub least : ℕ → ℕ → ℕ
 least a b = elim (ltb a b) [ true ↦ a | false ↦ b ]
 
+unfoldable pub greatest : ℕ → ℕ → ℕ
+greatest a b = elim (ltb a b) [ true ↦ b | false ↦ a ]
+
 -- a block, or order 11 for none
 unfoldable pub asBlock : Option Block → Block
 asBlock none = block orders 0
@@ -68,6 +74,11 @@ asBlock (some b) = b
 -- where the scan for order k starts
 unfoldable pub scanFrom : Bound → ℕ → ℕ
 scanFrom x k = elim (eqb k (x .limit)) [ true ↦ x .from .0 | false ↦ 0 ]
+
+-- whatever words the marks stand for: r is the block that the rule takes of them, and begins a free block of the order that r says
+pub record Chooses (F : ℕ) (b m : List ℕ) (left : ℕ) (known : Bound) (r : Cut) : Type 0 where
+  pub block : (w : List ℕ) → Stands F b m w → Searched F (freeIn w) known → r .block ≡ asBlock (takeBlock F (freeIn w) left)
+  pub first : (w : List ℕ) → Stands F b m w → Searched F (freeIn w) known → r .block .order ≤ largestOrder → getD w (r .block .start .0) 0 ≡ firstOf (r .top)
 
 -- what is known once block b was taken for so many pages left: a block below the order that fits is the first of the largest order that is left
 unfoldable pub boundAfter : Bound → Block → ℕ → Bound
@@ -86,6 +97,18 @@ pub record Begins (F : ℕ) (b : List ℕ) (s i : ℕ) : Type 0 where
   pub top : ℕ
   pub below : i ≤ top
   pub first : getD b s 0 ≡ firstOf top
+
+-- the marks of the orders i up to j, j left out, say that these upper halves of the block at s are left
+abbrev pub HalvesMarked : List ℕ → ℕ → ℕ → ℕ → List ℕ → Type 0
+HalvesMarked m s i j m′ = ChangedTo (λ g v. s + 2 ^ (g - orders) + 1) m (orders + i) (orders + j) m′
+
+-- the marks when the part of order i is taken of the free block of order j at s: that one is left no more, and its upper halves of the orders i up to j, j left out, are
+pub record Marked (m : List ℕ) (s i j : ℕ) (m′ : List ℕ) : Type 0 where
+  pub gone : fromOf m′ j ≡ greatest (s + 2 ^ j) (fromOf m j)
+  pub split : halfOf m′ j ≡ 0
+  pub halves : (k : ℕ) → i ≤ k → k < j → halfOf m′ k ≡ s + 2 ^ k + 1
+  pub froms : (k : ℕ) → k ≤ largestOrder → (k ≡ j → ⊥) → fromOf m′ k ≡ fromOf m k
+  pub others : (k : ℕ) → k ≤ largestOrder → (k ≡ j → ⊥) → (i ≤ k → k < j → ⊥) → halfOf m′ k ≡ halfOf m k
 
 -- the owners when the block of order i at s is given to o, o + 1, ..
 unfoldable pub handed : (ℕ → ℕ) → ℕ → ℕ → ℕ → ℕ → ℕ

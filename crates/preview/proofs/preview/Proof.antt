@@ -26,15 +26,6 @@ mul-a c = search needs
 add-e : tie.Need-add-e
 add-e c = search needs
 
-mul-owner : tie.Need-mul-owner
-mul-owner c = let w = map-facts _ _ _ _ _ (call-asked (Map _ _ _ _) _ _ _ (c .before .before .before .before .judge-map .ensures) (c .before .before .before .outcome .ensures) (omega (arith, c .before .if1 .left))) .spans in let s = w .space in let r = w .room in search needs
-
-add-owner : tie.Need-add-owner
-add-owner c = let w = map-facts _ _ _ _ _ (call-asked (Map _ _ _ _) _ _ _ (c .before .before .before .before .judge-map .ensures) (c .before .before .before .outcome .ensures) (omega (arith, c .before .if1 .left))) .spans in let s = w .space in let r = w .room in search needs
-
-add-owner-2 : tie.Need-add-owner-2
-add-owner-2 c = let w = map-facts _ _ _ _ _ (call-asked (Map _ _ _ _) _ _ _ (c .before .before .before .before .judge-map .ensures) (c .before .before .before .outcome .ensures) (omega (arith, c .before .if1 .left))) .spans in let s = w .space in let r = w .room in search needs
-
 mul-try-map : tie.Need-mul-try-map
 mul-try-map c = search needs
 
@@ -63,9 +54,6 @@ preview-spec =
     pool-size-requires
     mul-a
     add-e
-    mul-owner
-    add-owner
-    add-owner-2
     mul-try-map
     sub-try-map
     part-try-map-start

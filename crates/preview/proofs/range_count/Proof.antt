@@ -1,28 +1,25 @@
 use borrow.Author.Needs.{needs}
-use Rattle.preview.proofs.range_count.Statement.{statement}
-use Rattle.preview.proofs.range_count.Tie as tie
-use mathlib.Core.Path.{_≡_}
 use Prim.Native.Nat.{_-_, _≤_, zero-le}
 use native.Mathlib.Omega.{arith}
-use Rattle.words.specs.Counts.{count}
-use Rattle.words.proofs.CountLaws.{count-le, count-step}
-use Rattle.runs.specs.Runs.{rangesInSpace, usedEntry}
-use Rattle.preview.proofs.UsedLaws.{at-most-one, none-counted, all-counted}
+use Rattle.runs.specs.Runs.{rangesInSpace}
+use Rattle.preview.proofs.UsedLaws.{Used, none-yet, one-more, counted-to, all-counted}
+use Rattle.preview.proofs.range_count.Statement.{statement}
+use Rattle.preview.proofs.range_count.Tie as tie
 
 abbrev Inv-loop : tie.InvT-loop
-Inv-loop ranges n₀ k₀ n k = (k ≤ rangesInSpace) × (n ≡ count k (usedEntry ranges))
+Inv-loop ranges k₀ k = (k ≤ rangesInSpace) × Used ranges k
 
 abbrev μ-loop : tie.MeasureT-loop
-μ-loop ranges n₀ k₀ n k = rangesInSpace - k
+μ-loop ranges k₀ k = rangesInSpace - k
 
 loop-holds : tie.Need-loop-holds Inv-loop μ-loop
-loop-holds c = (zero-le, none-counted _)
+loop-holds c = (zero-le, none-yet _)
 
-one-if-used-requires : tie.Need-one-if-used-requires Inv-loop μ-loop
-one-if-used-requires c κs = search needs
+is-unused-requires : tie.Need-is-unused-requires Inv-loop μ-loop
+is-unused-requires c κs = search needs
 
-add-n : tie.Need-add-n Inv-loop μ-loop
-add-n c = record { fits = omega (arith, at-most-one _ _ _ (c .one-if-used .ensures), count-le (c .before .before .loop .k) (usedEntry (c .before .before .before .before .args .ranges .now))) }
+returns : tie.Need-returns Inv-loop μ-loop
+returns c = counted-to _ _ _ (c .before .before .before .before .before .pre .1) (c .before .before .loop-test .taken) (c .before .before .before .loop .inv .1) (c .before .is-unused .ensures) (c .if1 .taken)
 
 add-k : tie.Need-add-k Inv-loop μ-loop
 add-k c = search needs
@@ -31,10 +28,10 @@ loop-less : tie.Need-loop-less Inv-loop μ-loop
 loop-less c = search needs
 
 loop-again : tie.Need-loop-again Inv-loop μ-loop
-loop-again c = (omega arith, count-step _ _ _ _ (c .before .before .loop .inv .1) (c .one-if-used .ensures))
+loop-again c = (omega arith, one-more _ _ _ (c .before .before .before .loop .inv .1) (c .before .is-unused .ensures) (c .if1 .left))
 
-returns : tie.Need-returns Inv-loop μ-loop
-returns c = let e : c .before .loop .k ≡ rangesInSpace = omega arith in all-counted _ _ (rw e at (c .before .loop .inv .1))
+returns-2 : tie.Need-returns-2 Inv-loop μ-loop
+returns-2 c = all-counted _ _ (omega arith) (c .before .loop .inv .1)
 
 pub range-count-spec : {M : Type 1} → statement M
 range-count-spec =
@@ -43,9 +40,9 @@ range-count-spec =
     Inv-loop
     μ-loop
     loop-holds
-    one-if-used-requires
-    add-n
+    is-unused-requires
+    returns
     add-k
     loop-less
     loop-again
-    returns)
+    returns-2)

@@ -1,16 +1,21 @@
 use borrow.Author.Needs.{needs}
 use native.Mathlib.Omega.{arith}
 use Rattle.blocks.proofs.AllocateLaws.{chosen-is, chosen-begins, block-taken}
+use Rattle.blocks.proofs.MarkLaws.{nothing-marked}
 use Rattle.splitting.proofs.taking.take_block.Statement.{statement}
 use Rattle.splitting.proofs.taking.take_block.Tie as tie
 
+slice-aggregate-choose : tie.Need-slice-aggregate-choose
+slice-aggregate-choose c = search needs
+
 choose-requires : tie.Need-choose-requires
-choose-requires c κs = search needs
+choose-requires c κs = let p = c .before .before .before .pre in (p .0, (p .1 .0, p .1 .1 .1 .1 .1 .small))
 
 take-at-requires : tie.Need-take-at-requires
 take-at-requires c κs =
-    let p = c .before .before .before .before .pre in
-    let is = chosen-is _ _ _ _ (p .1 .0) (p .1 .1 .0) (c .before .choose .ensures) in (p .0, (chosen-begins _ _ (p .0) _ _ is, (p .1 .1 .1 .0, omega arith)))
+    let p = c .before .before .before .before .before .before .pre in
+    let is = chosen-is _ _ _ _ (p .1 .0) (p .1 .1 .0) (c .before .before .choose .ensures .block _ (nothing-marked _ _ 1 (p .0)) (p .1 .1 .1 .1 .1)) in
+    (p .0, (chosen-begins _ _ (p .0) _ _ is, (p .1 .1 .1 .0, omega arith)))
 
 bound-after-requires : tie.Need-bound-after-requires
 bound-after-requires c κs = search needs
@@ -20,10 +25,17 @@ same-length c = search needs
 
 returns : tie.Need-returns
 returns c =
-    let p = c .before .before .before .before .before .before .before .before .pre in
-    let is = chosen-is _ _ _ _ (p .1 .0) (p .1 .1 .0) (c .before .before .before .before .before .choose .ensures) in
+    let p = c .before .before .before .before .before .before .before .before .before .before .pre in
+    let is = chosen-is _ _ _ _ (p .1 .0) (p .1 .1 .0) (c .before .before .before .before .before .before .choose .ensures .block _ (nothing-marked _ _ 1 (p .0)) (p .1 .1 .1 .1 .1)) in
     block-taken _ _ (p .0) _ _ is _ (p .1 .1 .1 .0) (p .1 .1 .1 .1 .0) (p .1 .0) _ _ (p .1 .1 .1 .1 .1) (c .bound-after .ensures) _ (c .before .before .before .take-at .ensures)
 
 pub take-block-spec : {M : Type 1} → statement M
 take-block-spec =
-    tie.close (tie.spec choose-requires take-at-requires bound-after-requires same-length returns)
+    tie.close
+    (tie.spec
+    slice-aggregate-choose
+    choose-requires
+    take-at-requires
+    bound-after-requires
+    same-length
+    returns)

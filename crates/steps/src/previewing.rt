@@ -1,0 +1,77 @@
+// What a map would make of one space's pages. No frame word is written: marks say which blocks are chosen already.
+ghost use mathlib.Core.Path.{_≡_};
+ghost use mathlib.Core.Bool.{true};
+ghost use Prim.Native.Nat.{_+_, _≤_};
+ghost use lib.ListN.{length};
+ghost use Rattle.words.specs.Counts.{count};
+ghost use Rattle.blocks.specs.FrameWords.{freeIn, lawful};
+ghost use Rattle.blocks.specs.Choice.{framesFor, blockCount};
+ghost use Rattle.runs.specs.PageWords.{pagesInSpace};
+ghost use Rattle.runs.specs.Runs.{rangeWordsInSpace};
+ghost use Rattle.runs.specs.Walk.{rangeWords};
+ghost use Rattle.layout.specs.Changes.{mapWords};
+use crate::mapping::write_block;
+use blocks::MARK_WORDS;
+use frames::unchecked::mark_block;
+use frames::unchecked::nothing_known;
+use frames::unchecked::size_of;
+use ranges::renew::renew;
+use runs::Page;
+
+// Writes the words that a map of n pages from the first on gives these pages; how many blocks it takes.
+fn preview_blocks(
+    frames: &[u32],
+    part: &mut [u32],
+    pool: u32,
+    first: Page,
+    n: u32,
+    rights: u32,
+) -> u32
+    requires { ⌜ lawful pool (now frames) ≡ true ⌝ }
+    requires { ⌜ length (now part) ≡ pagesInSpace ⌝ }
+    requires { ⌜ n ≤ count pool (freeIn (now frames)) ⌝ }
+    requires { ⌜ first .0 + n ≤ pagesInSpace ⌝ }
+    requires { ⌜ rights ≤ 7 ⌝ }
+    ensures { λ r. ⌜ r ≡ blockCount pool (freeIn (now (frames .entry))) n ⌝ }
+    ensures { λ _. ⌜ now (part .exit) ≡ mapWords (now (part .entry)) (first .0) n rights (framesFor pool (freeIn (now (frames .entry))) n) ⌝ }
+{
+    let page = first.0;
+    let mut marks = [0u32; MARK_WORDS];
+    let mut done: u32 = 0;
+    let mut blocks: u32 = 0;
+    let mut known = nothing_known();
+    while done < n {
+        let chosen = mark_block(frames, pool, n - done, known, &mut marks);
+        let b = chosen.block;
+        let size = size_of(b.order);
+        write_block(part, Page(page + done), rights, b);
+        known = chosen.known;
+        done += size;
+        blocks += 1;
+    }
+    blocks
+}
+
+// Maps n pages from the first on in the page words alone, and builds the range words that they then have; how many blocks the map takes.
+pub fn preview_space(
+    frames: &[u32],
+    part: &mut [u32],
+    ranges: &mut [u32],
+    pool: u32,
+    first: Page,
+    n: u32,
+    rights: u32,
+) -> u32
+    requires { ⌜ lawful pool (now frames) ≡ true ⌝ }
+    requires { ⌜ length (now part) ≡ pagesInSpace ⌝ }
+    requires { ⌜ length (now ranges) ≡ rangeWordsInSpace ⌝ }
+    requires { ⌜ n ≤ count pool (freeIn (now frames)) ⌝ }
+    requires { ⌜ first .0 + n ≤ pagesInSpace ⌝ }
+    requires { ⌜ rights ≤ 7 ⌝ }
+    ensures { λ r. ⌜ r ≡ blockCount pool (freeIn (now (frames .entry))) n ⌝ }
+    ensures { λ _. ⌜ now (ranges .exit) ≡ rangeWords (mapWords (now (part .entry)) (first .0) n rights (framesFor pool (freeIn (now (frames .entry))) n)) ⌝ }
+{
+    let blocks = preview_blocks(frames, part, pool, first, n, rights);
+    renew(part, ranges);
+    blocks
+}
