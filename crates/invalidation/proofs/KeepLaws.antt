@@ -12,14 +12,13 @@ use lib.Seq.{getD-set-same, getD-set-other}
 use borrow.Author.Tests.{lt-ltb, le-ltb}
 use Rattle.words.specs.Tables.{imap}
 use Rattle.words.proofs.Cases.{by-dec}
-use Rattle.words.proofs.TableLaws.{length-imap, getD-imap, is-imap}
+use Rattle.words.proofs.TableLaws.{beyond, length-imap, getD-imap, is-imap}
 use Rattle.history.specs.declared.PageEntry.{PageEntry}
 use Rattle.history.specs.declared.RangeEntry.{RangeEntry}
 use Rattle.history.specs.declared.Unit.{Unit as TlbUnit}
 use Rattle.history.specs.declared.Removal.{Removal}
 use Rattle.history.specs.Units.{noRange}
 use Rattle.history.specs.CatchUp.{overlaps, keepLast}
-use Rattle.history.proofs.UnitLaws.{beyond}
 use Rattle.invalidation.specs.Entries.{withPages, withRanges}
 
 -- f of the entry at place k, where that is one of the first n places

@@ -10,6 +10,7 @@ use native.Mathlib.Omega.{arith}
 use lib.Dec.{eqb}
 use lib.ListN.{length, getD}
 use borrow.Author.Tests.{eq-eqb, lt-ltb, le-ltb}
+use Rattle.words.proofs.TableLaws.{beyond}
 use Rattle.words.specs.Searches.{firstFrom}
 use Rattle.words.proofs.Cases.{by-dec}
 use Rattle.words.proofs.SearchLaws.{first-unique, first-none}
@@ -20,7 +21,6 @@ use Rattle.history.specs.declared.Unit.{Unit as TlbUnit}
 use Rattle.history.specs.declared.Finding.the-variants.{ByPage, ByRange, ByWord, Nowhere}
 use Rattle.history.specs.Units.{noPage, noRange}
 use Rattle.history.specs.Translate.{holdsPage, covers, coveringPlace, inWord, inRanges, finding, entryFor, withPage, withRange, tableEntry, tableRange, withTableRange}
-use Rattle.history.proofs.UnitLaws.{beyond}
 use Rattle.lookup.specs.Inner.{placeOr, rangeCovers}
 
 -- an entry that is there, whatever stands beyond the list
