@@ -54,7 +54,7 @@ pub fn begin_tables(mapped: u32) {
 }
 
 pub fn preview_heading() {
-    text(b"\nF | broken up | n | refused | map | preview\n-|-|-|-|-|-\n");
+    text(b"\nF | broken up | n | copy | copy and map | preview\n-|-|-|-|-|-\n");
 }
 
 // The first three cells of a line of a map and its preview: the pool's size, how many of its frames were broken up, and how many pages are asked for.

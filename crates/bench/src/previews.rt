@@ -1,4 +1,4 @@
-// Timing a map and its preview on the same tables. Each call gets a copy of the three buffers that map writes, so that each finds the same; what the copy costs is shown by a map that is refused at once, for a control buffer of no words.
+// Timing a map and its preview on the same tables, of n pages from page 0 of space 0 on.
 use crate::cells;
 use crate::clock;
 use layout::Answer;
@@ -7,15 +7,8 @@ use layout::FRAME_BUFFER_WORDS;
 use layout::PAGE_BUFFER_WORDS;
 use layout::RANGE_BUFFER_WORDS;
 
-enum Call {
-    Refused,
-    Map,
-    Preview,
-}
-
-// Makes the call, of n pages from page 0 of space 0 on, in copies of the buffers.
-fn make(
-    call: Call,
+// Maps in a copy of the three buffers that map writes, so that each map finds the same. With a control buffer of no words it is refused at once, which shows what the copy costs.
+fn map_in_copy(
     control: &[u32],
     frames: [u32; FRAME_BUFFER_WORDS],
     pages: [u32; PAGE_BUFFER_WORDS],
@@ -25,16 +18,11 @@ fn make(
     let mut fs = frames;
     let mut ps = pages;
     let mut rs = ranges;
-    match call {
-        Call::Refused => tables::map(&control[..0], &mut fs, &mut ps, &mut rs, 0, 0, n, 3),
-        Call::Map => tables::map(control, &mut fs, &mut ps, &mut rs, 0, 0, n, 3),
-        Call::Preview => preview::preview(control, &fs, &ps, &rs, 0, 0, n, 3),
-    }
+    tables::map(control, &mut fs, &mut ps, &mut rs, 0, 0, n, 3)
 }
 
-// The time of a hundred calls.
-fn hundred(
-    call: Call,
+// The time of a hundred maps.
+fn hundred_maps(
     control: &[u32],
     frames: [u32; FRAME_BUFFER_WORDS],
     pages: [u32; PAGE_BUFFER_WORDS],
@@ -43,14 +31,23 @@ fn hundred(
 ) -> u64 {
     let start = clock::used();
     for _ in 0..100u32 {
-        make(call, control, frames, pages, ranges, n);
+        map_in_copy(control, frames, pages, ranges, n);
     }
     clock::since(start)
 }
 
-// The times of the fastest hundred calls of each kind.
+// The time of a hundred previews, which need no copy.
+fn hundred_previews(control: &[u32], frames: &[u32], pages: &[u32], ranges: &[u32], n: u32) -> u64 {
+    let start = clock::used();
+    for _ in 0..100u32 {
+        preview::preview(control, frames, pages, ranges, 0, 0, n, 3);
+    }
+    clock::since(start)
+}
+
+// The times of the fastest hundred of each kind.
 struct Times {
-    refused: u64,
+    copy: u64,
     map: u64,
     preview: u64,
 }
@@ -62,6 +59,21 @@ fn least(a: u64, b: u64) -> u64 {
     b
 }
 
+// One round.
+fn round(
+    control: &[u32],
+    frames: [u32; FRAME_BUFFER_WORDS],
+    pages: [u32; PAGE_BUFFER_WORDS],
+    ranges: [u32; RANGE_BUFFER_WORDS],
+    n: u32,
+) -> Times {
+    Times {
+        copy: hundred_maps(&control[..0], frames, pages, ranges, n),
+        map: hundred_maps(control, frames, pages, ranges, n),
+        preview: hundred_previews(control, &frames, &pages, &ranges, n),
+    }
+}
+
 // Of `rounds` rounds, in each of which the kinds take turns, so that what slows the machine for a while slows all of them.
 fn fastest(
     rounds: u32,
@@ -71,25 +83,16 @@ fn fastest(
     ranges: [u32; RANGE_BUFFER_WORDS],
     n: u32,
 ) -> Times {
-    let mut refused = hundred(Call::Refused, control, frames, pages, ranges, n);
-    let mut map = hundred(Call::Map, control, frames, pages, ranges, n);
-    let mut preview = hundred(Call::Preview, control, frames, pages, ranges, n);
+    let mut best = round(control, frames, pages, ranges, n);
     for _ in 1..rounds {
-        refused = least(
-            refused,
-            hundred(Call::Refused, control, frames, pages, ranges, n),
-        );
-        map = least(map, hundred(Call::Map, control, frames, pages, ranges, n));
-        preview = least(
-            preview,
-            hundred(Call::Preview, control, frames, pages, ranges, n),
-        );
+        let t = round(control, frames, pages, ranges, n);
+        best = Times {
+            copy: least(best.copy, t.copy),
+            map: least(best.map, t.map),
+            preview: least(best.preview, t.preview),
+        };
     }
-    Times {
-        refused,
-        map,
-        preview,
-    }
+    best
 }
 
 // The cells of a line: what each call answers, or where rounds are asked for its time.
@@ -102,12 +105,21 @@ fn line(
     n: u32,
 ) {
     if rounds == 0 {
-        cells::answer(tables::outcome(make(Call::Refused, control, frames, pages, ranges, n)));
-        cells::answer(tables::outcome(make(Call::Map, control, frames, pages, ranges, n)));
-        cells::answer(tables::outcome(make(Call::Preview, control, frames, pages, ranges, n)));
+        cells::answer(tables::outcome(map_in_copy(&control[..0], frames, pages, ranges, n)));
+        cells::answer(tables::outcome(map_in_copy(control, frames, pages, ranges, n)));
+        cells::answer(tables::outcome(preview::preview(
+            control,
+            &frames,
+            &pages,
+            &ranges,
+            0,
+            0,
+            n,
+            3,
+        )));
     } else {
         let best = fastest(rounds, control, frames, pages, ranges, n);
-        cells::hundredths(best.refused);
+        cells::hundredths(best.copy);
         cells::hundredths(best.map);
         cells::hundredths(best.preview);
     }

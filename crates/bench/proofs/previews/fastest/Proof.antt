@@ -4,39 +4,26 @@ use Rattle.bench.proofs.previews.fastest.Statement.{statement}
 use Rattle.bench.proofs.previews.fastest.Tie as tie
 
 abbrev Inv-loop : tie.InvT-loop
-Inv-loop rounds control frames pages ranges n refused₀ map₀ preview₀ counter₀ refused map preview counter =
+Inv-loop rounds control frames pages ranges n best₀ counter₀ best counter =
     Unit
 
 abbrev μ-loop : tie.MeasureT-loop
-μ-loop rounds control frames pages ranges n refused₀ map₀ preview₀ counter₀ refused map preview counter =
-    rounds - counter
+μ-loop rounds control frames pages ranges n best₀ counter₀ best counter = rounds - counter
 
-hundred-requires : tie.Need-hundred-requires Inv-loop μ-loop
-hundred-requires c κs = search needs
-
-hundred-requires-2 : tie.Need-hundred-requires-2 Inv-loop μ-loop
-hundred-requires-2 c κs = search needs
-
-hundred-requires-3 : tie.Need-hundred-requires-3 Inv-loop μ-loop
-hundred-requires-3 c κs = search needs
+round-requires : tie.Need-round-requires Inv-loop μ-loop
+round-requires c κs = search needs
 
 loop-holds : tie.Need-loop-holds Inv-loop μ-loop
 loop-holds c = search needs
 
-hundred-requires-4 : tie.Need-hundred-requires-4 Inv-loop μ-loop
-hundred-requires-4 c κs = search needs
+round-requires-2 : tie.Need-round-requires-2 Inv-loop μ-loop
+round-requires-2 c κs = search needs
 
 least-requires : tie.Need-least-requires Inv-loop μ-loop
 least-requires c κs = search needs
 
-hundred-requires-5 : tie.Need-hundred-requires-5 Inv-loop μ-loop
-hundred-requires-5 c κs = search needs
-
 least-requires-2 : tie.Need-least-requires-2 Inv-loop μ-loop
 least-requires-2 c κs = search needs
-
-hundred-requires-6 : tie.Need-hundred-requires-6 Inv-loop μ-loop
-hundred-requires-6 c κs = search needs
 
 least-requires-3 : tie.Need-least-requires-3 Inv-loop μ-loop
 least-requires-3 c κs = search needs
@@ -59,15 +46,11 @@ fastest-spec =
     (tie.spec
     Inv-loop
     μ-loop
-    hundred-requires
-    hundred-requires-2
-    hundred-requires-3
+    round-requires
     loop-holds
-    hundred-requires-4
+    round-requires-2
     least-requires
-    hundred-requires-5
     least-requires-2
-    hundred-requires-6
     least-requires-3
     add-counter
     loop-less

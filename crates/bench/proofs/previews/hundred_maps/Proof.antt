@@ -1,14 +1,14 @@
 use Prim.Native.Nat.{_≤_, _-_}
 use borrow.Author.Needs.{needs}
-use Rattle.bench.proofs.previews.hundred.Statement.{statement}
-use Rattle.bench.proofs.previews.hundred.Tie as tie
+use Rattle.bench.proofs.previews.hundred_maps.Statement.{statement}
+use Rattle.bench.proofs.previews.hundred_maps.Tie as tie
 
 abbrev Inv-loop : tie.InvT-loop
-Inv-loop call control frames pages ranges n start counter₀ counter =
+Inv-loop control frames pages ranges n start counter₀ counter =
     counter ≤ 100
 
 abbrev μ-loop : tie.MeasureT-loop
-μ-loop call control frames pages ranges n start counter₀ counter = 100 - counter
+μ-loop control frames pages ranges n start counter₀ counter = 100 - counter
 
 used-requires : tie.Need-used-requires Inv-loop μ-loop
 used-requires c κs = search needs
@@ -16,8 +16,8 @@ used-requires c κs = search needs
 loop-holds : tie.Need-loop-holds Inv-loop μ-loop
 loop-holds c = search needs
 
-make-requires : tie.Need-make-requires Inv-loop μ-loop
-make-requires c κs = search needs
+map-in-copy-requires : tie.Need-map-in-copy-requires Inv-loop μ-loop
+map-in-copy-requires c κs = search needs
 
 add-counter : tie.Need-add-counter Inv-loop μ-loop
 add-counter c = search needs
@@ -34,15 +34,15 @@ since-requires c κs = search needs
 returns : tie.Need-returns Inv-loop μ-loop
 returns c = search needs
 
-pub hundred-spec : {M : Type 1} → statement M
-hundred-spec =
+pub hundred-maps-spec : {M : Type 1} → statement M
+hundred-maps-spec =
     tie.close
     (tie.spec
     Inv-loop
     μ-loop
     used-requires
     loop-holds
-    make-requires
+    map-in-copy-requires
     add-counter
     loop-less
     loop-again
