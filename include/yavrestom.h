@@ -90,7 +90,7 @@ uint32_t yavrestom_map(const uint32_t *control, size_t control_words, uint32_t *
                        uint32_t *values, size_t values_words);
 
 /* What a map with these arguments would answer; it alters nothing but `values`.
- * Values: blocks that map would take, ranges that the space would then have. Refused as map. It takes some 23,000
+ * Values: blocks that map would take, ranges that the space would then have. Refused as map. It takes some 6,400
  * bytes of the stack. */
 uint32_t yavrestom_preview(const uint32_t *control, size_t control_words, const uint32_t *frames, size_t frames_words,
                            const uint32_t *pages, size_t pages_words, const uint32_t *ranges, size_t ranges_words,
