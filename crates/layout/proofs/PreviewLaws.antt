@@ -6,7 +6,7 @@ use Prim.Native.Nat.{ℕ}
 use native.Mathlib.Omega.{arith}
 use borrow.Author.Tests.{eqb-true, eqb-false}
 use Rattle.words.specs.declared.Outcome.{Outcome}
-use Rattle.words.specs.Rows.{refusal, values, accepted, numberOf, outcomeOf, after}
+use Rattle.words.specs.Rows.{refusal, values, accepted, numberOf, after}
 use Rattle.words.proofs.Cases.{by-test}
 use Rattle.words.proofs.RowLaws.{promised-number, refused-is, accepted-is, refused-zeros, refused-leaves}
 use Rattle.blocks.specs.FrameWords.{freeIn}
@@ -18,7 +18,7 @@ use Rattle.runs.proofs.RangeCountLaws.{ranges-counted, one-number}
 use Rattle.control.specs.Control.{poolSize}
 use Rattle.layout.specs.declared.TableCall.the-variants.{Map, Preview}
 use Rattle.layout.specs.Tables.{Tables, spacePages, spaceRanges}
-use Rattle.layout.specs.Plain.{plainOf, tablesOf}
+use Rattle.layout.specs.Plain.{plainOf}
 use Rattle.layout.specs.Changes.{takenFrames, takenBlockCount, mapWords, mapPlain}
 use Rattle.layout.specs.Calls.{rangeCountIn, sizedRow, row, Called}
 use Rattle.layout.specs.Statements.{CountIsOfRanges, MapThenCount, PreviewIsMap}
