@@ -70,7 +70,7 @@ pub fn end() {
     text(b"\n");
 }
 
-// The next cell: what a call answers, its value or the number of its refusal.
+// The next cell: what a call answers, its first value or the number of its refusal.
 pub fn answer(o: Outcome) {
     bar();
     if o.number == 0 {

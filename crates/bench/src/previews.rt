@@ -74,7 +74,7 @@ fn round(
     }
 }
 
-// Of `rounds` rounds, in each of which the kinds take turns, so that what slows the machine for a while slows all of them.
+// The least times of `rounds` rounds; in each the kinds take turns, so that what slows one for a while slows all.
 fn fastest(
     rounds: u32,
     control: &[u32],
@@ -95,7 +95,7 @@ fn fastest(
     best
 }
 
-// The cells of a line: what each call answers, or where rounds are asked for its time.
+// The cells of a line: the first value that each call answers, or where rounds are asked for its time.
 fn line(
     rounds: u32,
     control: &[u32],
@@ -139,7 +139,7 @@ fn map_singly(
     }
 }
 
-// Unmaps every second of them: their frames are then free singly.
+// Maps the first `held` pages of space 1 one by one and unmaps every second: the frames of those are then free singly.
 fn break_up(
     control: &mut [u32],
     frames: &mut [u32],

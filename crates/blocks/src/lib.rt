@@ -21,7 +21,7 @@ pub const NO_FRAME: u32 = 65535;
 // The orders of blocks are 0 to 10.
 pub const ORDERS: u32 = 11;
 
-// The words of the marks: one for each order, and then a second one for each.
+// The words of the marks: for each order the frame from which on its free blocks are left, and then for each the half that is left (specs/Inner/Taking).
 pub const MARK_WORDS: usize = 22;
 
 // A frame number. A virtual page number never stands in its place.

@@ -117,12 +117,12 @@ pub fn choose(frames: &[u32], pool: u32, left: u32, known: Bound, marks: &[u32])
             if half != 0 {
                 break 'search cut_at(Frame(half - 1), order, k);
             }
-            let taken = mark_at(marks, k);
+            let left_from = mark_at(marks, k);
             let from = scan_from(known, k);
             let size = size_of(k);
             // A block of order k starts only at a multiple of its size.
             let first = start_of(from, k);
-            let mut f = greatest(first.0, taken);
+            let mut f = greatest(first.0, left_from);
             while f < pool {
                 if frames[f as usize] == FREE_FIRST + k {
                     break 'search cut_at(Frame(f), order, k);
@@ -130,7 +130,7 @@ pub fn choose(frames: &[u32], pool: u32, left: u32, known: Bound, marks: &[u32])
                 f += size;
             }
         }
-        break cut_at(Frame(0), 11, 0);
+        break cut_at(Frame(0), ORDERS, 0);
     };
     chosen
 }

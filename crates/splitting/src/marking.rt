@@ -35,7 +35,7 @@ fn mark_halves(marks: &mut [u32], s: Frame, order: u32, top: u32)
     }
 }
 
-// Marks that the block is chosen which begins a free block.
+// Marks that the block of the cut is chosen: the free block that it begins is left no more, and its upper halves are.
 fn mark_cut(marks: &mut [u32], cut: Cut)
     requires { ⌜ length (now marks) ≡ markWords ⌝ }
     requires { ⌜ cut .block .order ≤ cut .top ⌝ }
@@ -48,7 +48,7 @@ fn mark_cut(marks: &mut [u32], cut: Cut)
     let top = cut.top;
     let size = size_of(top);
     let from = mark_at(marks, top);
-    // The free block was the lowest of those lent of its order, or else the half; in both cases no half is left.
+    // It was the lowest one lent that is left, or else the half; a half is left only where none lent is, so `from` passes over none.
     marks[top as usize] = greatest(start.0 + size, from);
     marks[(ORDERS + top) as usize] = 0;
     mark_halves(marks, start, b.order, top);

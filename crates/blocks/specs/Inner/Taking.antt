@@ -57,9 +57,13 @@ halfOf m k = getD m (orders + k) 0
 -- the words lent are b, and with the marks m they say the free blocks of w, the words that a map which writes would have by now
 pub record Stands (F : ℕ) (b m w : List ℕ) : Type 0 where
   pub lawful : lawful F w ≡ true
+  -- a scan from there on meets each start
   pub aligned : (k : ℕ) → k ≤ largestOrder → startOf k (fromOf m k) ≡ fromOf m k
+  -- a block lent that is not taken yet is free in w, and then there is no half of its order
   pub lent : (k s : ℕ) → k ≤ largestOrder → s < F → getD b s 0 ≡ firstOf k → fromOf m k ≤ s → (getD w s 0 ≡ firstOf k) × (halfOf m k ≡ 0)
+  -- the half is free in w
   pub half : (k s : ℕ) → k ≤ largestOrder → halfOf m k ≡ s + 1 → (s < F) × (getD w s 0 ≡ firstOf k)
+  -- and w has no other free block
   pub only : (k s : ℕ) → k ≤ largestOrder → s < F → getD w s 0 ≡ firstOf k → (halfOf m k ≡ s + 1 → ⊥) → (getD b s 0 ≡ firstOf k) × (fromOf m k ≤ s)
 
 -- the marks stand for some words, of which `known` holds and in which as many frames are free as pages are left
@@ -69,7 +73,7 @@ pub record Previewed (F : ℕ) (b m : List ℕ) (left : ℕ) (known : Bound) : T
   pub searched : Searched F (freeIn words) known
   pub enough : left ≤ count F (freeIn words)
 
--- whatever words the marks stood for, the block that the rule takes of them is chosen, and the marks now stand for the words that are left when it is taken
+-- whatever words the marks stood for, the block that the rule takes of them is chosen, and the marks now stand for the words that are left when it is taken, by owners from any o on
 pub record BlockMarked (F : ℕ) (b m : List ℕ) (left : ℕ) (known : Bound) (r : Chosen) (m′ : List ℕ) : Type 0 where
   pub marked : (w : List ℕ) (o : ℕ) → Stands F b m w → Searched F (freeIn w) known → left ≤ count F (freeIn w) → 1 ≤ o → o + left ≤ 4097
       → (w′ : List ℕ) × BlockTaken F w o left r w′ × Stands F b m′ w′

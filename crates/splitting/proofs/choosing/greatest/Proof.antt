@@ -1,6 +1,5 @@
 use Rattle.splitting.proofs.choosing.greatest.Statement.{statement}
 use Rattle.splitting.proofs.choosing.greatest.Tie as tie
-use Prim.Native.Nat.{_-_}
 use Rattle.blocks.proofs.MarkLaws.{greatest-first, greatest-second}
 
 returns : tie.Need-returns
