@@ -11,9 +11,6 @@ use Rattle.blocks.specs.FrameWords.{lawful, freeIn}
 use Rattle.blocks.specs.Choice.{framesFor, blockCount}
 use Rattle.runs.specs.Runs.{rangeCount}
 use Rattle.runs.specs.Walk.{rangeWords}
-use Rattle.runs.specs.Inner.{UsedFirst}
-use Rattle.runs.proofs.RangeCountLaws.{used-come-first}
-use Rattle.words.proofs.TableLaws.{length-imap}
 use Rattle.control.specs.Control.{poolSize}
 use Rattle.layout.specs.declared.TableCall.the-variants.{Map, Preview}
 use Rattle.layout.specs.Tables.{Tables, spacePages}
@@ -24,14 +21,8 @@ use Rattle.layout.proofs.SpaceLaws.{lent-part}
 use Rattle.layout.proofs.CallLaws.{Mapping, pool-lawful, pool-enough}
 use Rattle.layout.proofs.PreviewLaws.{preview-done}
 
-pub copy-ranges : (ws xs : List ℕ) → xs ≡ ws → (first n rights : ℕ) (fs rs : List ℕ) (k : ℕ) → rs ≡ rangeWords (mapWords xs first n rights fs) → k ≡ rangeCount rs
-    → k ≡ rangeCount (rangeWords (mapWords ws first n rights fs))
-copy-ranges ws xs xe first n rights fs rs k re ke = ke ∙ ap rangeCount re ∙ ap (λ (l : List ℕ). rangeCount (rangeWords (mapWords l first n rights fs))) xe
-
--- the used ones of the range words come first
-pub used-first : (ws xs : List ℕ) → xs ≡ ws → length ws ≡ 1024 → (first n rights : ℕ) (fs rs : List ℕ) → rs ≡ rangeWords (mapWords xs first n rights fs) → UsedFirst rs
-unfolding mapWords
-used-first ws xs xe long first n rights fs rs re = rw re (used-come-first _ (length-imap _ 0 xs ∙ ap length xe ∙ long))
+pub copy-ranges : (ws xs : List ℕ) → xs ≡ ws → (first n rights : ℕ) (fs : List ℕ) (k : ℕ) → k ≡ rangeCount (rangeWords (mapWords xs first n rights fs)) → k ≡ rangeCount (rangeWords (mapWords ws first n rights fs))
+copy-ranges ws xs xe first n rights fs k ke = ke ∙ ap (λ (l : List ℕ). rangeCount (rangeWords (mapWords l first n rights fs))) xe
 
 module _ (T : Tables) (F s first n rights : ℕ) (fe : F ≡ poolSize (T .control)) where
   -- the space's part of the page buffer as it is lent

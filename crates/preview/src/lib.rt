@@ -1,15 +1,14 @@
 // The call preview: what a map would answer, and the ranges that its space would then have. It judges what it is lent and writes nothing.
 ghost use mathlib.Core.Path.{_≡_};
-ghost use mathlib.Core.Bool.{true, not};
-ghost use Prim.Native.Nat.{_+_, _≤_, _<_};
+ghost use mathlib.Core.Bool.{true};
+ghost use Prim.Native.Nat.{_+_, _≤_};
 ghost use lib.ListN.{length};
 ghost use Rattle.words.specs.Counts.{count};
 ghost use Rattle.blocks.specs.FrameWords.{lawful, freeIn};
 ghost use Rattle.blocks.specs.Choice.{framesFor, blockCount};
 ghost use Rattle.runs.specs.PageWords.{pagesInSpace};
-ghost use Rattle.runs.specs.Runs.{rangesInSpace, rangeWordsInSpace, usedEntry, rangeCount};
+ghost use Rattle.runs.specs.Runs.{rangeCount};
 ghost use Rattle.runs.specs.Walk.{rangeWords};
-ghost use Rattle.runs.specs.Inner.{UsedFirst};
 ghost use Rattle.layout.specs.declared.TableCall.the-variants.{Preview};
 ghost use Rattle.layout.specs.Answers.{outcome};
 ghost use Rattle.layout.specs.Tables.{tables};
@@ -18,48 +17,23 @@ ghost use Rattle.layout.specs.Calls.{Called};
 use layout::Answer;
 use refusals::judge_map;
 use refusals::outcome;
-use runs::ENTRY_WORDS;
 use runs::PAGE_WORDS;
 use runs::Page;
-use runs::RANGE_WORDS;
-use runs::RANGES;
+use steps::Cost;
 use steps::preview_space;
-use words::scans::chunk_same;
 use words::writes::copy;
 
-// Whether entry k of a space's range words is unused: its words are all 0.
-fn is_unused(ranges: &[u32], k: u32) -> bool
-    requires { ⌜ length (now ranges) ≡ rangeWordsInSpace ⌝ }
-    requires { ⌜ k < rangesInSpace ⌝ }
-    ensures { λ r. ⌜ r ≡ not (usedEntry (now (ranges .entry)) k) ⌝ }
+// A copy of a space's page words. It is returned by value, so that the compiler need not clear what the copy overwrites.
+fn copied(part: &[u32]) -> [u32; PAGE_WORDS]
+    requires { ⌜ length (now part) ≡ pagesInSpace ⌝ }
+    ensures { λ r. ⌜ r ≡ now (part .entry) ⌝ }
 {
-    let at = ENTRY_WORDS * (k as usize);
-    chunk_same(ranges, at, ENTRY_WORDS, 0)
+    let mut words = [0u32; PAGE_WORDS];
+    copy(&mut words, part);
+    words
 }
 
-// How many entries of a space's range words are used, where the used ones come first.
-fn range_count(ranges: &[u32]) -> u32
-    requires { ⌜ length (now ranges) ≡ rangeWordsInSpace ⌝ }
-    requires { ⌜ UsedFirst (now ranges) ⌝ }
-    ensures { λ r. ⌜ r ≡ rangeCount (now (ranges .entry)) ⌝ }
-{
-    let mut k: u32 = 0;
-    while k < RANGES {
-        if is_unused(ranges, k) {
-            return k;
-        }
-        k += 1;
-    }
-    k
-}
-
-// What a map costs: the blocks that it takes, and the ranges that its space then has.
-struct Cost {
-    blocks: u32,
-    ranges: u32,
-}
-
-// Maps n pages from the first on in a copy of the space's page words, which is given up afterwards; frame words are read only.
+// What a map of n pages from the first on costs: it is made in a copy of the space's page words, which is given up afterwards; frame words are read only.
 fn try_map(frames: &[u32], part: &[u32], pool: u32, first: Page, n: u32, rights: u32) -> Cost
     requires { ⌜ lawful pool (now frames) ≡ true ⌝ }
     requires { ⌜ length (now part) ≡ pagesInSpace ⌝ }
@@ -69,14 +43,8 @@ fn try_map(frames: &[u32], part: &[u32], pool: u32, first: Page, n: u32, rights:
     ensures { λ r. ⌜ r .blocks ≡ blockCount pool (freeIn (now (frames .entry))) n ⌝ }
     ensures { λ r. ⌜ r .ranges ≡ rangeCount (rangeWords (mapWords (now (part .entry)) (first .0) n rights (framesFor pool (freeIn (now (frames .entry))) n))) ⌝ }
 {
-    let mut mapped = [0u32; PAGE_WORDS];
-    let mut ranges = [0u32; RANGE_WORDS];
-    copy(&mut mapped, part);
-    let blocks = preview_space(frames, &mut mapped, &mut ranges, pool, first, n, rights);
-    Cost {
-        blocks,
-        ranges: range_count(&ranges),
-    }
+    let mut mapped = copied(part);
+    preview_space(frames, &mut mapped, pool, first, n, rights)
 }
 
 // What a map of the span would answer; second value: the space's ranges afterwards. Refused: 1, 2, 5, 6, 8, 10, 11, 14.

@@ -1,10 +1,10 @@
 // Range bits and range words rebuilt.
 ghost use mathlib.Core.Path.{_≡_};
 ghost use Prim.Native.Nat.{_+_, _≤_};
-ghost use lib.ListN.{length};
+ghost use lib.ListN.{length, take};
 ghost use lib.Seq.{sets};
 ghost use Rattle.runs.specs.PageWords.{pagesInSpace};
-ghost use Rattle.runs.specs.Walk.{entryOf, ended, withBits, rangeWords};
+ghost use Rattle.runs.specs.Walk.{entryOf, ended, withBits, entries, rangeWords};
 ghost use Rattle.runs.specs.Inner.{Marked, EndedRun, zeroFrom};
 ghost use Rattle.runs.specs.Runs.{rangeWordsInSpace, wordsInTableEntry};
 use crate::page_words::bit_word;
@@ -85,12 +85,13 @@ fn zero_from(ranges: &mut [u32], at: usize)
     fill(ranges, at, ranges.len(), 0);
 }
 
-// Rebuilds a space's range bits and range words from its frames and rights.
-pub fn renew(part: &mut [u32], ranges: &mut [u32])
+// Rebuilds a space's range bits from its frames and rights, and lists its ranges from the first range word on; how many words their entries take.
+pub fn list_ranges(part: &mut [u32], ranges: &mut [u32]) -> usize
     requires { ⌜ length (now part) ≡ pagesInSpace ⌝ }
     requires { ⌜ length (now ranges) ≡ rangeWordsInSpace ⌝ }
     ensures { λ _. ⌜ now (part .exit) ≡ withBits (now (part .entry)) ⌝ }
-    ensures { λ _. ⌜ now (ranges .exit) ≡ rangeWords (now (part .entry)) ⌝ }
+    ensures { λ r. ⌜ r ≡ length (entries (now (part .entry))) ⌝ }
+    ensures { λ r. ⌜ take r (now (ranges .exit)) ≡ entries (now (part .entry)) ⌝ }
 {
     let mut n: u32 = 0;
     let mut v: u32 = 0;
@@ -106,6 +107,16 @@ pub fn renew(part: &mut [u32], ranges: &mut [u32])
         v = along.last;
         i += 1 + along.pages;
     }
-    at = end_run(part, ranges, false, at, PAGES, n, v);
+    end_run(part, ranges, false, at, PAGES, n, v)
+}
+
+// Rebuilds a space's range bits and range words from its frames and rights.
+pub fn renew(part: &mut [u32], ranges: &mut [u32])
+    requires { ⌜ length (now part) ≡ pagesInSpace ⌝ }
+    requires { ⌜ length (now ranges) ≡ rangeWordsInSpace ⌝ }
+    ensures { λ _. ⌜ now (part .exit) ≡ withBits (now (part .entry)) ⌝ }
+    ensures { λ _. ⌜ now (ranges .exit) ≡ rangeWords (now (part .entry)) ⌝ }
+{
+    let at = list_ranges(part, ranges);
     zero_from(ranges, at);
 }

@@ -21,7 +21,7 @@ use Rattle.runs.specs.PageWords.{mapped, rangeBit, frameIn, rightsIn}
 use Rattle.runs.specs.Walk.{joins, goesOn, wordBefore, runBefore, bitWord, withBits, ended, entryOf, entries, rangeWords, same, lawfulRanges}
 use Rattle.runs.specs.Inner.{Empty, Onward, Along, nowhere, empty, onward, Decides, EndFits, WordFits, zeroFrom}
 use Rattle.runs.proofs.WordLaws.{zero-unmapped, ahead, joins-at, goes-join, goes-new, bit-none, of-bit, bit-zero, zero-word, mapped-word, word-cases, lawful-word, own-bit}
-use Rattle.runs.proofs.StepLaws.{walk-empty, walk-onward, run-none, Walked, walk-start, run-le, at-length, Left, left-step, left-end, left-room, walk-step, stops-step, stops-end, bit-run, walk-end}
+use Rattle.runs.proofs.StepLaws.{walk-empty, walk-onward, run-none, Walked, walk-start, run-le, at-length, Left, left-step, left-end, left-room, walk-step, zeros-follow, stops-step, stops-end, bit-run, walk-end}
 use Rattle.runs.proofs.WalkLaws.{goes-zero, before-le, whole, whole-step, bit-at, withBits-at, length-withBits, ended-short, ended-long, ended-on, length-entry, last-mapped, last-none, before-word}
 
 pub same-refl : (xs : List ℕ) → same xs xs ≡ true
@@ -320,7 +320,7 @@ module _ (ws rs : List ℕ) (i n v at : ℕ) (s : Checking ws rs i n v at) where
       })
     where
       words : EndFits rs false at i n v → zeroFrom rs (at + length (ended false i n v)) ≡ rangeWords ws
-      words f = walk-end _ _ _ _ _ _ (s .walked) rs _ h refl (s .walked .table) (taken-more false (end-room h) f)
+      words f = let e = walk-end _ _ _ _ _ _ (s .walked) rs _ h refl (s .walked .table) (taken-more false (end-room h) f) in zeros-follow ws rs _ (s .walked .table) (e .0) (e .1)
 
 check-empty : (ws rs : List ℕ) (i at k : ℕ) → Checking ws rs i 0 0 at → Empty ws i k → Checking ws rs (i + k) 0 0 at
 unfolding bit-at

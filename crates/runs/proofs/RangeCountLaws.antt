@@ -1,4 +1,4 @@
--- The used entries of a lawful range table come first, and are as many as the longest runs of at least 8 pages.
+-- The used entries of a lawful range table are as many as the longest runs of at least 8 pages, and have four words each.
 use mathlib.Core.Path.{_≡_, refl, ap, _∙_, sym}
 use mathlib.Core.Bool.{Bool, true, false, not}
 use mathlib.Core.List.{List, _∷_, _++_}
@@ -14,7 +14,7 @@ use Rattle.words.proofs.CountLaws.{count-split, count-ext, count-add-one, none-
 use Rattle.words.proofs.SearchLaws.{at-any, any-none}
 use Rattle.words.proofs.TableLaws.{all-default}
 use Rattle.runs.specs.Walk.{entries, rangeWords}
-use Rattle.runs.specs.Inner.{UsedFirst}
+use Rattle.runs.proofs.WalkLaws.{entries-few}
 use Rattle.runs.proofs.RunsLaws.{table-is}
 use Rattle.runs.specs.Runs.{Longest, Table, nothing, entry, Has, here, later, RangesSound, usedEntry, rangeCount, RangeFrom, RangesCounted}
 
@@ -90,18 +90,18 @@ module _ (ws : List ℕ) where
       let first : count (suc n) (usedEntry (x ∷ y ∷ o ∷ r ∷ more ++ replicate u 0)) ≡ suc (count n (usedEntry (more ++ replicate u 0))) = count-later n x y o r (more ++ replicate u 0) (omega arith) in
       first ∙ ap suc (used-bases t u n (omega arith)) ∙ sym (one-more x y o r lo eight g w t)
 
-  -- no entry behind an unused one is used
-  none-behind : {a : ℕ} {l : List ℕ} → Table ws a l → (u k j : ℕ) → k ≤ j → usedEntry (l ++ replicate u 0) k ≡ false → usedEntry (l ++ replicate u 0) j ≡ false
-  none-behind nothing u k j h f = unused-zeros u j
-  none-behind (entry x y o r {more} lo eight g w t) u zero j h f = true-false _ (used-first x y o r (more ++ replicate u 0) (omega arith)) f
-  none-behind (entry x y o r {more} lo eight g w t) u (suc k) zero h f = absurd (omega arith)
-  none-behind (entry x y o r {more} lo eight g w t) u (suc k) (suc j) h f =
-      let rest = more ++ replicate u 0 in
-      used-later x y o r rest j (suc j) (omega arith) ∙ none-behind t u k j (omega arith) (sym (used-later x y o r rest k (suc k) (omega arith)) ∙ f)
+  -- four words for each used entry
+  four-each : {a : ℕ} {l : List ℕ} → Table ws a l → (u n : ℕ) → length l ≤ 4 * n → length l ≡ 4 * count n (usedEntry (l ++ replicate u 0))
+  four-each nothing u n h = let none = none-pass n _ (λ k hk. unused-zeros u k) in omega (arith, none)
+  four-each (entry x y o r {more} lo eight g w t) u zero h = absurd (omega arith)
+  four-each (entry x y o r {more} lo eight g w t) u (suc n) h =
+      let first : count (suc n) (usedEntry (x ∷ y ∷ o ∷ r ∷ more ++ replicate u 0)) ≡ suc (count n (usedEntry (more ++ replicate u 0))) = count-later n x y o r (more ++ replicate u 0) (omega arith) in
+      omega (arith, first, four-each t u n (omega arith))
 
-  pub used-come-first : length ws ≡ 1024 → UsedFirst (rangeWords ws)
-  unfolding rangeWords
-  used-come-first size = record { none-after = λ k j h f. none-behind (table-is ws (omega arith)) (512 - length (entries ws)) k j h f }
+  -- k words of entries
+  pub entries-counted : (k : ℕ) → length ws ≡ 1024 → k ≡ length (entries ws) → (k ≤ 512) × (k ≡ 4 * rangeCount (rangeWords ws))
+  unfolding rangeCount rangeWords
+  entries-counted k size e = let few = entries-few ws size in (omega arith, e ∙ four-each (table-is ws (omega arith)) (512 - length (entries ws)) 128 (omega arith))
 
   pub ranges-counted : (rs : List ℕ) (n : ℕ) → length rs ≡ 512 → RangesSound ws rs → n ≡ rangeCount rs → RangesCounted ws n
   unfolding rangeCount

@@ -16,7 +16,7 @@ use Rattle.words.proofs.Cases.{by-test, by-dec}
 use Rattle.words.proofs.CountLaws.{one-if-le}
 use Rattle.words.proofs.WriteLaws.{change-none, change-more}
 use Rattle.runs.specs.PageWords.{mapped, rangeBit}
-use Rattle.runs.specs.Walk.{joins, goesOn, runBefore, bitWord, withBits, ended, entryOf, rangeWords}
+use Rattle.runs.specs.Walk.{joins, goesOn, runBefore, bitWord, withBits, ended, entryOf, entries}
 use Rattle.runs.specs.Inner.{Empty, Onward, Along, nowhere, empty, onward, Marked, zeroFrom, markedPages, EndedRun}
 use Rattle.runs.proofs.WordLaws.{zero-unmapped, mapped-word, own-bit, joins-at, bit-none, goes-join, goes-new}
 use Rattle.runs.proofs.StepLaws.{walk-empty, walk-onward, run-none, next-on, next-short, next-long, Walked, walk-start, run-le, at-length, left-step, left-end, left-room, walk-step, stops-step, stops-end, bit-run, walk-end}
@@ -193,11 +193,8 @@ module _ (ws xs rs : List ℕ) (i n v at : ℕ) (s : Renewing ws xs rs i n v at)
       ext-getD 0 xs′ (withBits ws) (len ∙ sym (length-withBits ws ∙ z)) (λ q h.
       all-settled xs′ (stops-end _ _ _ _ _ _ (s .walked) e) (r .pages) q (omega arith) ∙ sym (withBits-at ws q (omega arith)))
 
-  pub renew-table : (xs′ rs′ rs″ : List ℕ) (at′ : ℕ) → i ≡ 1024 → EndedRun xs rs false at i n v at′ xs′ rs′ → rs″ ≡ zeroFrom rs′ at′ → rs″ ≡ rangeWords ws
-  renew-table xs′ rs′ rs″ at′ e r f = f ∙ walk-end _ _ _ _ _ _ (s .walked) rs′ at′ e (r .place) (kept rs′ (ended false i n v) (r .table)) (taken rs′ (ended false i n v) at′ (room-end e) (r .place) (r .table))
-
-  pub renew-place : (xs′ rs′ : List ℕ) (at′ : ℕ) → i ≡ 1024 → EndedRun xs rs false at i n v at′ xs′ rs′ → at′ ≤ length rs′
-  renew-place xs′ rs′ at′ e r = omega (arith, r .place, room-end e, kept rs′ (ended false i n v) (r .table))
+  pub renew-entries : (xs′ rs′ : List ℕ) (at′ : ℕ) → i ≡ 1024 → EndedRun xs rs false at i n v at′ xs′ rs′ → (at′ ≡ length (entries ws)) × (take at′ rs′ ≡ entries ws)
+  renew-entries xs′ rs′ at′ e r = walk-end _ _ _ _ _ _ (s .walked) rs′ at′ e (r .place) (kept rs′ (ended false i n v) (r .table)) (taken rs′ (ended false i n v) at′ (room-end e) (r .place) (r .table))
 
 -- over unmapped pages
 renew-empty : (ws xs rs : List ℕ) (i at k : ℕ) → Renewing ws xs rs i 0 0 at → Empty xs i k → Renewing ws xs rs (i + k) 0 0 at

@@ -110,14 +110,18 @@ module _ (ws rs : List ℕ) (i n v at : ℕ) (s : Walked ws rs i n v at) where
   pub bit-run : whole ws i ≡ runBefore ws i → (q : ℕ) → q < i → i ≤ q + n → bit-at ws q ≡ bitWord (leb 8 n) (getD ws q 0)
   bit-run w q lt le = rw (s .run) (bit-ended ws i q (omega (arith, s .size, s .inside)) w lt (omega (arith, s .run)))
 
-  -- the end: the words taken are all entries, and zeros follow
-  pub walk-end : (rs′ : List ℕ) (at′ : ℕ) → i ≡ 1024 → at′ ≡ at + length (ended false i n v) → length rs′ ≡ 512 → take at′ rs′ ≡ take at rs ++ ended false i n v → zeroFrom rs′ at′ ≡ rangeWords ws
-  unfolding rangeWords zeroFrom left-end
+  -- the end: the words taken are all entries
+  pub walk-end : (rs′ : List ℕ) (at′ : ℕ) → i ≡ 1024 → at′ ≡ at + length (ended false i n v) → length rs′ ≡ 512 → take at′ rs′ ≡ take at rs ++ ended false i n v → (at′ ≡ length (entries ws)) × (take at′ rs′ ≡ entries ws)
+  unfolding left-end
   walk-end rs′ at′ h p l t =
       let x = left-end h in
       let all : take at′ rs′ ≡ entries ws = t ∙ ap (λ (l : List ℕ). take at rs ++ l) (sym (x .is ∙ append-nil (ended false i n v))) ∙ sym (s .listed) in
-      let len : length (entries ws) ≡ at′ = sym (ap length all) ∙ length-take-le at′ rs′ (omega (arith, left-room false x)) in
-      ap₂ (λ (l : List ℕ) (k : ℕ). l ++ replicate k 0) all (ap₂ _-_ l (sym len))
+      (sym (length-take-le at′ rs′ (omega (arith, left-room false x))) ∙ ap length all, all)
+
+-- zeros follow the entries
+pub zeros-follow : (ws rs : List ℕ) (at : ℕ) → length rs ≡ 512 → at ≡ length (entries ws) → take at rs ≡ entries ws → zeroFrom rs at ≡ rangeWords ws
+unfolding rangeWords zeroFrom
+zeros-follow ws rs at l e t = ap₂ (λ (l : List ℕ) (k : ℕ). l ++ replicate k 0) t (ap₂ _-_ l e)
 
 -- Stretches
 

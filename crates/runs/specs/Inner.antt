@@ -9,7 +9,7 @@ use lib.Seq.{sets}
 use Rattle.words.specs.Tables.{part}
 use Rattle.words.specs.Inner.{ChangedTo}
 use Rattle.runs.specs.PageWords.{pagesInSpace, rightsFactor, mapped, rangeBit, frameIn, isPageWord}
-use Rattle.runs.specs.Runs.{smallestRange, wordsInTableEntry, usedEntry}
+use Rattle.runs.specs.Runs.{smallestRange, wordsInTableEntry}
 use Rattle.runs.specs.Walk.{bitWord, entryOf, ended}
 
 -- a test that decides a statement
@@ -55,12 +55,6 @@ pub record EndedRun (xs rs : List ℕ) (on : Bool) (at b n v r : ℕ) (xs′ rs�
   pub place : r ≡ at + length (ended on b n v)
   pub table : rs′ ≡ sets rs at (ended on b n v)
   pub pages : Marked (leb smallestRange n) xs (b - n) (markedPages on n) xs′
-
--- Counting
-
--- the used entries come first
-pub record UsedFirst (rs : List ℕ) : Type 0 where
-  pub none-after : (k j : ℕ) → k ≤ j → usedEntry rs k ≡ false → usedEntry rs j ≡ false
 
 -- Checking
 

@@ -16,6 +16,7 @@ ghost use Rattle.blocks.specs.Owners.{give};
 ghost use Rattle.layout.specs.Tables.{pageBufferWords, rangeBufferWords, spacePages, ownerAt};
 ghost use Rattle.layout.specs.Changes.{Rewritten, mapWords, unmapWords, mappedIn, protectWords, differing};
 use crate::mapping::map_space;
+pub use crate::previewing::Cost;
 pub use crate::previewing::preview_space;
 use crate::protecting::protect_space;
 use crate::unmapping::unmap_space;

@@ -7,7 +7,7 @@ ghost use Rattle.words.specs.Counts.{count};
 ghost use Rattle.blocks.specs.FrameWords.{freeIn, lawful};
 ghost use Rattle.blocks.specs.Choice.{framesFor, blockCount};
 ghost use Rattle.runs.specs.PageWords.{pagesInSpace};
-ghost use Rattle.runs.specs.Runs.{rangeWordsInSpace};
+ghost use Rattle.runs.specs.Runs.{rangeCount};
 ghost use Rattle.runs.specs.Walk.{rangeWords};
 ghost use Rattle.layout.specs.Changes.{mapWords};
 use crate::mapping::write_block;
@@ -15,8 +15,10 @@ use blocks::MARK_WORDS;
 use frames::unchecked::mark_block;
 use frames::unchecked::nothing_known;
 use frames::unchecked::size_of;
-use ranges::renew::renew;
+use ranges::renew::list_ranges;
+use runs::ENTRY_WORDS;
 use runs::Page;
+use runs::RANGE_WORDS;
 
 // Writes the words that a map of n pages from the first on gives these pages; how many blocks it takes.
 fn preview_blocks(
@@ -52,26 +54,34 @@ fn preview_blocks(
     blocks
 }
 
-// Maps n pages from the first on in the page words alone, and builds the range words that they then have; how many blocks the map takes.
+// What a map costs: the blocks that it takes, and the ranges that its space then has.
+pub struct Cost {
+    pub blocks: u32,
+    pub ranges: u32,
+}
+
+// Maps n pages from the first on in the page words alone, and counts the ranges that they then have. The list of these is given up afterwards.
 pub fn preview_space(
     frames: &[u32],
     part: &mut [u32],
-    ranges: &mut [u32],
     pool: u32,
     first: Page,
     n: u32,
     rights: u32,
-) -> u32
+) -> Cost
     requires { ⌜ lawful pool (now frames) ≡ true ⌝ }
     requires { ⌜ length (now part) ≡ pagesInSpace ⌝ }
-    requires { ⌜ length (now ranges) ≡ rangeWordsInSpace ⌝ }
     requires { ⌜ n ≤ count pool (freeIn (now frames)) ⌝ }
     requires { ⌜ first .0 + n ≤ pagesInSpace ⌝ }
     requires { ⌜ rights ≤ 7 ⌝ }
-    ensures { λ r. ⌜ r ≡ blockCount pool (freeIn (now (frames .entry))) n ⌝ }
-    ensures { λ _. ⌜ now (ranges .exit) ≡ rangeWords (mapWords (now (part .entry)) (first .0) n rights (framesFor pool (freeIn (now (frames .entry))) n)) ⌝ }
+    ensures { λ r. ⌜ r .blocks ≡ blockCount pool (freeIn (now (frames .entry))) n ⌝ }
+    ensures { λ r. ⌜ r .ranges ≡ rangeCount (rangeWords (mapWords (now (part .entry)) (first .0) n rights (framesFor pool (freeIn (now (frames .entry))) n))) ⌝ }
 {
+    let mut ranges = [0u32; RANGE_WORDS];
     let blocks = preview_blocks(frames, part, pool, first, n, rights);
-    renew(part, ranges);
-    blocks
+    let listed = list_ranges(part, &mut ranges);
+    Cost {
+        blocks,
+        ranges: (listed / ENTRY_WORDS) as u32,
+    }
 }
