@@ -1,7 +1,6 @@
 -- The count of ranges is the number of longest runs of at least 8 pages, and a preview is map followed by counting: the statement, and the promise of a preview from what its code has found.
 use mathlib.Core.Path.{_≡_, refl, ap, ap₂, _∙_, sym, subst}
 use mathlib.Core.Bool.{true, false}
-use mathlib.Core.List.{List}
 use Prim.Native.Nat.{ℕ}
 use native.Mathlib.Omega.{arith}
 use borrow.Author.Tests.{eqb-true, eqb-false}
@@ -85,15 +84,15 @@ module _ (s first n rights : ℕ) (T : Tables) where
     pub preview-refused : (x .number ≡ 0 → ⊥) → Called (Preview s first n rights) T o T
     preview-refused k = call-refused (Preview s first n rights) T o x judged xe k
 
-    -- m blocks were found, and the range words rs
-    pub preview-done : x .number ≡ 0 → (m : ℕ) (rs : List ℕ) → m ≡ blockCount (poolSize (T .control)) (freeIn (T .frames)) n
-        → rs ≡ rangeWords (mapWords (spacePages (T .pages) s) first n rights (framesFor (poolSize (T .control)) (freeIn (T .frames)) n))
-        → Called (Preview s first n rights) T (values m (rangeCount rs)) T
+    -- m blocks and k ranges were found
+    pub preview-done : x .number ≡ 0 → (m k : ℕ) → m ≡ blockCount (poolSize (T .control)) (freeIn (T .frames)) n
+        → k ≡ rangeCount (rangeWords (mapWords (spacePages (T .pages) s) first n rights (framesFor (poolSize (T .control)) (freeIn (T .frames)) n)))
+        → Called (Preview s first n rights) T (values m k) T
     unfolding row after sizedRow rangeCountIn takenBlockCount takenFrames plainOf freeIn mapPlain
-    preview-done z m rs me re =
+    preview-done z m k me ke =
         let q = map-facts T s first n rights (call-asked (Map s first n rights) T o x oe xe z) in
         let left = ranges-of (mapPlain (plainOf T) s first n rights) (mapped-valid T s first n rights q) s (q .spans .space) ∙ ap rangeWords (words-here _ s _) in
-        rw (me, re, ← left) (call-done (Preview s first n rights) T o x judged xe z T refl)
+        rw (me, ke, ← left) (call-done (Preview s first n rights) T o x judged xe z T refl)
 
 pub preview-is-map : PreviewIsMap
 unfolding PreviewIsMap

@@ -1,5 +1,5 @@
 -- What a preview asks of its try and promises after it, and the try itself, which maps in a copy xs of the page words ws that are lent to it.
-use mathlib.Core.Path.{_≡_, refl, ap, _∙_}
+use mathlib.Core.Path.{_≡_, ap, _∙_}
 use mathlib.Core.Bool.{true}
 use mathlib.Core.List.{List}
 use Prim.Native.Nat.{ℕ, _+_, _-_, _*_, _≤_}
@@ -46,4 +46,4 @@ module _ (T : Tables) (F s first n rights : ℕ) (fe : F ≡ poolSize (T .contro
       let v : (m ≡ blockCount (poolSize (T .control)) (freeIn (T .frames)) n)
       × (k ≡ rangeCount (rangeWords (mapWords (spacePages (T .pages) s) first n rights (framesFor (poolSize (T .control)) (freeIn (T .frames)) n)))) = rw (fe, lent-is) at w
       in
-      rw (v .1) (preview-done s first n rights T o x oe xe z m _ (v .0) refl)
+      preview-done s first n rights T o x oe xe z m k (v .0) (v .1)

@@ -85,7 +85,7 @@ fn zero_from(ranges: &mut [u32], at: usize)
     fill(ranges, at, ranges.len(), 0);
 }
 
-// Rebuilds a space's range bits from its frames and rights, and lists its ranges from the first range word on; how many words their entries take.
+// Rebuilds a space's range bits from its frames and rights, and lists its ranges from the first range word on; how many words their entries take. What stands behind these is not said.
 pub fn list_ranges(part: &mut [u32], ranges: &mut [u32]) -> usize
     requires { ⌜ length (now part) ≡ pagesInSpace ⌝ }
     requires { ⌜ length (now ranges) ≡ rangeWordsInSpace ⌝ }

@@ -98,7 +98,7 @@ module _ (ws : List ℕ) where
       let first : count (suc n) (usedEntry (x ∷ y ∷ o ∷ r ∷ more ++ replicate u 0)) ≡ suc (count n (usedEntry (more ++ replicate u 0))) = count-later n x y o r (more ++ replicate u 0) (omega arith) in
       omega (arith, first, four-each t u n (omega arith))
 
-  -- k words of entries
+  -- the entries take at most 512 words, four for each used one
   pub entries-counted : (k : ℕ) → length ws ≡ 1024 → k ≡ length (entries ws) → (k ≤ 512) × (k ≡ 4 * rangeCount (rangeWords ws))
   unfolding rangeCount rangeWords
   entries-counted k size e = let few = entries-few ws size in (omega arith, e ∙ four-each (table-is ws (omega arith)) (512 - length (entries ws)) 128 (omega arith))

@@ -62,7 +62,7 @@ pub fn take_block(frames: &mut [u32], pool: u32, owner: u32, left: u32, known: B
     requires { ⌜ Searched pool (freeIn (now frames)) known ⌝ }
     ensures { λ r. ⌜ BlockTaken pool (now (frames .entry)) owner left r (now (frames .exit)) ⌝ }
 {
-    // Marks that are all 0: what is taken stands in the frame words.
+    // One mark, 0, as are those that are not there: what is taken stands in the frame words.
     let nothing_taken = [0u32; 1];
     let cut = choose(frames, pool, left, known, &nothing_taken);
     let b = cut.block;

@@ -60,7 +60,7 @@ pub struct Cost {
     pub ranges: u32,
 }
 
-// Maps n pages from the first on in the page words alone, and counts the ranges that they then have. The list of these is given up afterwards.
+// Maps n pages from the first on in the page words alone, and counts the ranges that they then have. What it leaves in the page words is of no use.
 pub fn preview_space(
     frames: &[u32],
     part: &mut [u32],
@@ -77,6 +77,7 @@ pub fn preview_space(
     ensures { λ r. ⌜ r .blocks ≡ blockCount pool (freeIn (now (frames .entry))) n ⌝ }
     ensures { λ r. ⌜ r .ranges ≡ rangeCount (rangeWords (mapWords (now (part .entry)) (first .0) n rights (framesFor pool (freeIn (now (frames .entry))) n))) ⌝ }
 {
+    // Nothing reads the list, so the compiler need not clear it first.
     let mut ranges = [0u32; RANGE_WORDS];
     let blocks = preview_blocks(frames, part, pool, first, n, rights);
     let listed = list_ranges(part, &mut ranges);
