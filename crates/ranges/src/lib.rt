@@ -3,4 +3,5 @@
 pub mod lawful;
 pub mod page_words;
 pub mod renew;
+pub mod running;
 pub mod walk;

@@ -3,6 +3,7 @@ pub mod OffsetLaws
 pub mod BaseLimitLaws
 pub mod WalkLaws
 pub mod RunsLaws
+pub mod RunningLaws
 pub mod StepLaws
 pub mod RenewLaws
 pub mod CheckLaws

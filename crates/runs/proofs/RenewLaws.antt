@@ -16,11 +16,11 @@ use Rattle.words.proofs.Cases.{by-test, by-dec}
 use Rattle.words.proofs.CountLaws.{one-if-le}
 use Rattle.words.proofs.WriteLaws.{change-none, change-more}
 use Rattle.runs.specs.PageWords.{mapped, rangeBit}
-use Rattle.runs.specs.Walk.{joins, goesOn, runBefore, bitWord, withBits, ended, entryOf, entries}
+use Rattle.runs.specs.Walk.{joins, goesOn, bitWord, withBits, ended, entryOf, entries}
 use Rattle.runs.specs.Inner.{Empty, Onward, Along, nowhere, empty, onward, Marked, zeroFrom, markedPages, EndedRun}
 use Rattle.runs.proofs.WordLaws.{zero-unmapped, mapped-word, own-bit, joins-at, bit-none, goes-join, goes-new}
 use Rattle.runs.proofs.StepLaws.{walk-empty, walk-onward, run-none, next-on, next-short, next-long, Walked, walk-start, run-le, at-length, left-step, left-end, left-room, walk-step, stops-step, stops-end, bit-run, walk-end}
-use Rattle.runs.proofs.WalkLaws.{goes-zero, whole, bit-at, withBits-at, length-withBits, ended-short, ended-long, ended-on}
+use Rattle.runs.proofs.WalkLaws.{runBefore, goes-zero, whole, bit-at, withBits-at, length-withBits, ended-short, ended-long, ended-on}
 
 -- Marking, word by word
 pub mark-none : (bit : Bool) (xs : List ℕ) (a : ℕ) → Marked bit xs a 0 xs

@@ -16,10 +16,11 @@ use Rattle.words.proofs.Cases.{by-test, by-dec, true-false}
 use Rattle.words.proofs.CountLaws.{one-if-le}
 use Rattle.runs.specs.PageWords.{mapped, frameIn, rightsIn}
 use Rattle.runs.specs.Runs.{Run, Longest, InRange, Gives, Table, nothing, entry, Has, here, later}
-use Rattle.runs.specs.Walk.{joins, goesOn, wordBefore, runBefore, runTo, runAfter, bitWord, withBits, ended, entryOf, entriesFrom, entries}
+use Rattle.runs.specs.Running.{RunningLength, in-run, in-none}
+use Rattle.runs.specs.Walk.{joins, goesOn, runAfter, bitWord, withBits, ended, entryOf, entriesFrom, entries}
 use Rattle.runs.proofs.OffsetLaws.{offset-back, sub-lt}
 use Rattle.runs.proofs.WordLaws.{frame-lt, joins-at, join, goes-join, goes-new}
-use Rattle.runs.proofs.WalkLaws.{before-suc, goes-on, before-le, back, whole, whole-step, whole-end, whole-last, whole-back, bit-at, withBits-at, entries-suc, entries-end, ended-short, ended-long, ended-on, last-mapped, last-none, before-word}
+use Rattle.runs.proofs.WalkLaws.{wordBefore, runBefore, before-suc, goes-on, before-le, back, whole, whole-step, whole-end, whole-last, whole-back, bit-at, withBits-at, entries-suc, entries-end, ended-short, ended-long, ended-on, last-mapped, last-none, before-word}
 
 module _ (ws : List ℕ) where
   abbrev word : ℕ → ℕ
@@ -130,15 +131,6 @@ module _ (ws : List ℕ) where
       let t = run-joins x y (x + d) (l .run) (omega arith) (omega arith) in
       let g = goes-join (runBefore ws (suc (x + d))) (wordBefore ws (suc (x + d))) (word (suc (x + d))) (rw (last-is (x + d)) t) in
       rw e (before-suc ws (suc (x + d)) ∙ g ∙ rw (count-up x y d l (omega arith)) (add-one (suc d)))
-
-  -- at each page the running length is the number of pages of its longest run up to there, 0 where it is in none
-  pub running : (x y p : ℕ) → Longest ws x y → x ≤ p → p < y → runTo ws p ≡ suc p - x
-  unfolding runTo
-  running x y p l lo hi =
-      let e : x + (p - x) ≡ p = omega arith in
-      let c = count-up x y (p - x) l (omega arith) in
-      let k : suc (p - x) ≡ suc p - x = omega arith in
-      rw (add-one p) ((rw e at c) ∙ k)
 
   longest-before : (x y : ℕ) → Longest ws x y → runBefore ws y ≡ y - x
   longest-before x y l =
@@ -294,6 +286,33 @@ module _ (ws : List ℕ) where
       let ge = r .ge in
       record { end = r .end; ge = omega arith; fits = r .fits; grows = omega (arith, r .grows, before-suc ws i); stop = r .stop; same = r .same ∙ whole-step ws i (omega arith) t })
       (λ t. record { end = i; ge = omega arith; fits = omega arith; grows = omega arith; stop = λ h. t; same = refl })
+
+  -- The running length is that of Runs: `runBefore` counts the pages of the longest run up to page p, and is the only number that does
+
+  pub running-before : (p : ℕ) → p < length ws → RunningLength ws p (runBefore ws (suc p))
+  running-before p h =
+      by-dec (decLe 1 (runBefore ws (suc p)))
+      (λ pos.
+      let r = ending (length ws - suc p) (suc p) (omega arith) in
+      let ge = r .ge in
+      let n : runBefore ws (r .end) ≡ runBefore ws (suc p) + (r .end - suc p) = r .grows in
+      let le = before-le ws (r .end) in
+      let e : p + 1 - (r .end - runBefore ws (r .end)) ≡ runBefore ws (suc p) = omega (arith, before-le ws (suc p)) in
+      rw (← e) (in-run (ends-here (r .end) (r .fits) (omega arith) (r .stop)) (omega (arith, before-le ws (suc p))) (omega arith)))
+      (λ z.
+      let e : runBefore ws (suc p) ≡ 0 = omega arith in
+      rw e (in-none (λ x y r lo hi. true-false (mapped (word p)) (r .maps p lo hi) (rw (last-is p) at (last-none ws (suc p) e)))))
+
+  pub running-is : (p n : ℕ) → p < length ws → RunningLength ws p n → n ≡ runBefore ws (suc p)
+  running-is p n h (in-run {x} {y} l lo hi) =
+      let e : x + (p - x) ≡ p = omega arith in
+      let c = count-up x y (p - x) l (omega arith) in
+      let k : suc (p - x) ≡ p + 1 - x = omega arith in
+      sym ((rw e at c) ∙ k)
+  running-is p n h (in-none out) =
+      by-dec (decLe 1 (runBefore ws (suc p)))
+      (λ pos. absurd (out (suc p - runBefore ws (suc p)) (suc p) (behind (suc p) (omega arith) pos .run) (omega arith) (omega arith)))
+      (λ z. omega arith)
 
   no-after : (v : ℕ) (l : List ℕ) → mapped v ≡ false → runAfter v l ≡ 0
   unfolding runAfter

@@ -5,7 +5,6 @@ use mathlib.Core.List.{List, [], _++_, append-assoc, append-nil}
 use Prim.Native.Nat.{ℕ, zero, suc, _+_, _-_, _<_, _≤_, zero-le}
 use native.Mathlib.Nat.{add-zero}
 use native.Mathlib.Numerals.{add-one}
-use native.Mathlib.Decide.{decLe}
 use native.Mathlib.Omega.{arith}
 use lib.Dec.{leb}
 use lib.ListN.{length, getD, drop, take, replicate, length-append}
@@ -13,13 +12,15 @@ use lib.Seq.{length-take-le}
 use borrow.Author.Tests.{eqb-true}
 use Rattle.words.specs.Counts.{one-if}
 use Rattle.words.specs.Inner.{sameIn, countsBeside, PassTo}
-use Rattle.words.proofs.Cases.{by-dec, true-false}
+use Rattle.words.proofs.Cases.{true-false}
 use Rattle.words.proofs.ScanLaws.{beside-at}
 use Rattle.runs.specs.PageWords.{mapped, frameIn}
-use Rattle.runs.specs.Walk.{joins, goesOn, wordBefore, runBefore, bitWord, ended, entriesFrom, entries, rangeWords}
+use Rattle.runs.specs.Running.{Carries}
+use Rattle.runs.specs.Walk.{joins, goesOn, bitWord, ended, entriesFrom, entries, rangeWords}
 use Rattle.runs.specs.Inner.{zeroFrom, Empty, Onward, Along, nowhere, empty, onward}
 use Rattle.runs.proofs.WordLaws.{frame-lt, zero-unmapped, join, not-joins, goes-join, goes-new, ahead-joins}
-use Rattle.runs.proofs.WalkLaws.{last-mapped, before-suc, before-le, whole, whole-end, whole-last, bit-at, bit-ended, entries-suc, entries-end, ended-short, ended-long, ended-on, length-entry, entries-few}
+use Rattle.runs.proofs.RunningLaws.{carries-is, carries-start, carries-le, carries-page, page-running, no-run}
+use Rattle.runs.proofs.WalkLaws.{wordBefore, runBefore, before-suc, whole, whole-end, whole-last, bit-at, bit-ended, entries-suc, entries-end, ended-short, ended-long, ended-on, length-entry, entries-few}
 
 -- the place of the next entry, in the three ways that a run goes
 pub next-on : (on : Bool) (at b n v : ℕ) → on ≡ true → at ≡ at + length (ended on b n v)
@@ -40,18 +41,26 @@ pub record Walked (ws rs : List ℕ) (i n v at : ℕ) : Type 0 where
   pub size : length ws ≡ 1024
   pub table : length rs ≡ 512
   pub inside : i ≤ 1024
-  pub run : n ≡ runBefore ws i
-  pub last : v ≡ wordBefore ws i
+  pub carries : Carries ws i n v
   pub place : at ≤ 512
   pub listed : entries ws ≡ take at rs ++ entriesFrom i n v (drop i ws)
 
 pub walk-start : (ws rs : List ℕ) → length ws ≡ 1024 → length rs ≡ 512 → Walked ws rs 0 0 0 0
-unfolding entries runBefore wordBefore
-walk-start ws rs e f = record { size = e; table = f; inside = zero-le; run = refl; last = refl; place = zero-le; listed = refl }
+unfolding entries
+walk-start ws rs e f = record { size = e; table = f; inside = zero-le; carries = carries-start ws; place = zero-le; listed = refl }
 
 module _ (ws rs : List ℕ) (i n v at : ℕ) (s : Walked ws rs i n v at) where
+  fits : i ≤ length ws
+  fits = omega (arith, s .size, s .inside)
+
+  pub run-is : n ≡ runBefore ws i
+  run-is = carries-is ws i n v fits (s .carries) .0
+
+  pub last-is : v ≡ wordBefore ws i
+  last-is = carries-is ws i n v fits (s .carries) .1
+
   pub run-le : n ≤ i
-  run-le = omega (arith, s .run, before-le ws i)
+  run-le = carries-le ws i n v fits (s .carries)
 
   pub at-length : length (take at rs) ≡ at
   at-length = length-take-le at rs (omega (arith, s .table, s .place))
@@ -68,12 +77,12 @@ module _ (ws rs : List ℕ) (i n v at : ℕ) (s : Walked ws rs i n v at) where
       record {
         more = entriesFrom (suc i) (goesOn n v w) w (drop (suc i) ws);
         is =
-            rw (o, e, s .run, s .last)
+            rw (o, e, run-is, last-is)
             (c ∙ ap (λ (x : ℕ). ended (joins (wordBefore ws i) (getD ws i 0)) i (runBefore ws i) (wordBefore ws i) ++ entriesFrom (suc i) x (getD ws i 0) (drop (suc i) ws)) (before-suc ws i));
       }
 
   pub left-end : i ≡ 1024 → Left false
-  left-end h = record { more = []; is = rw (s .run, s .last) (entries-end ws i (omega (arith, s .size))) ∙ sym (append-nil (ended false i n v)) }
+  left-end h = record { more = []; is = rw (run-is, last-is) (entries-end ws i (omega (arith, s .size))) ∙ sym (append-nil (ended false i n v)) }
 
   -- there is room for an entry
   pub left-room : (on : Bool) → Left on → at + length (ended on i n v) ≤ 512
@@ -87,28 +96,25 @@ module _ (ws rs : List ℕ) (i n v at : ℕ) (s : Walked ws rs i n v at) where
   unfolding wordBefore left-step
   walk-step rs′ on w m at′ h e o g p l t =
       let x = left-step on w h e o in
-      let next : goesOn n v w ≡ runBefore ws (suc i) =
-      rw e (ap (λ (x : ℕ). goesOn x v (getD ws i 0)) (s .run) ∙ ap (λ (x : ℕ). goesOn (runBefore ws i) x (getD ws i 0)) (s .last) ∙ sym (before-suc ws i))
-      in
+      let running = page-running ws i n v (omega (arith, s .size)) (s .carries) w m e g in
       record {
         size = s .size;
         table = l;
         inside = omega arith;
-        run = rw (add-one i) (g ∙ next);
-        last = rw (add-one i) e;
+        carries = carries-page ws i m w running e;
         place = omega (arith, left-room on x);
         listed = rw (t, add-one i, g) (s .listed ∙ ap (λ (l : List ℕ). take at rs ++ l) (x .is) ∙ sym (append-assoc (take at rs) (ended on i n v) (x .more)));
       }
 
   -- where a run ends
   pub stops-step : (w : ℕ) → i < 1024 → w ≡ getD ws i 0 → joins v w ≡ false → whole ws i ≡ runBefore ws i
-  stops-step w h e t = whole-end ws i (omega (arith, s .size)) (rw (← e, ← s .last) t)
+  stops-step w h e t = whole-end ws i (omega (arith, s .size)) (rw (← e, ← last-is) t)
 
   pub stops-end : i ≡ 1024 → whole ws i ≡ runBefore ws i
   stops-end h = whole-last ws i (omega (arith, s .size))
 
   pub bit-run : whole ws i ≡ runBefore ws i → (q : ℕ) → q < i → i ≤ q + n → bit-at ws q ≡ bitWord (leb 8 n) (getD ws q 0)
-  bit-run w q lt le = rw (s .run) (bit-ended ws i q (omega (arith, s .size, s .inside)) w lt (omega (arith, s .run)))
+  bit-run w q lt le = rw run-is (bit-ended ws i q fits w lt (omega (arith, run-is)))
 
   -- the end: the words taken are all entries
   pub walk-end : (rs′ : List ℕ) (at′ : ℕ) → i ≡ 1024 → at′ ≡ at + length (ended false i n v) → length rs′ ≡ 512 → take at′ rs′ ≡ take at rs ++ ended false i n v → (at′ ≡ length (entries ws)) × (take at′ rs′ ≡ entries ws)
@@ -190,7 +196,4 @@ along-none ws i w p m (onward t o) f = true-false (mapped w) t f
 
 -- no run goes before a word 0
 pub run-none : (ws rs : List ℕ) (i n v at : ℕ) → Walked ws rs i n v at → v ≡ 0 → n ≡ 0
-run-none ws rs i n v at s z =
-    by-dec (decLe 1 n)
-    (λ some. true-false (mapped v) (ap mapped (s .last) ∙ last-mapped ws i (omega (arith, s .run))) (zero-unmapped v z))
-    (λ none. omega arith)
+run-none ws rs i n v at s z = no-run ws i n v (omega (arith, s .size, s .inside)) (s .carries) z

@@ -14,8 +14,18 @@ use Rattle.words.specs.Counts.{one-if}
 use Rattle.words.proofs.Cases.{by-test, by-dec, true-false}
 use Rattle.words.proofs.CountLaws.{one-if-le}
 use Rattle.runs.specs.PageWords.{mapped}
-use Rattle.runs.specs.Walk.{joins, goesOn, wordBefore, runBefore, runAfter, bitWord, bitsFrom, withBits, ended, entryOf, entriesFrom, entries}
+use Rattle.runs.specs.Walk.{joins, goesOn, runAfter, bitWord, bitsFrom, withBits, ended, entryOf, entriesFrom, entries}
 use Rattle.runs.proofs.WordLaws.{zero-unmapped, joins-at, goes-join, goes-new}
+
+-- the word before page i, 0 for page 0
+unfoldable pub wordBefore : List ℕ → ℕ → ℕ
+wordBefore ws zero = 0
+wordBefore ws (suc i) = getD ws i 0
+
+-- the running length before page i, computed from page to page: by `running-before` and `running-is` (RunsLaws) it is `RunningLength` at page i - 1, and no other number is
+unfoldable pub runBefore : List ℕ → ℕ → ℕ
+runBefore ws zero = 0
+runBefore ws (suc i) = goesOn (runBefore ws i) (wordBefore ws i) (getD ws i 0)
 
 -- the walk, one page further
 pub before-suc : (ws : List ℕ) (i : ℕ) → runBefore ws (suc i) ≡ goesOn (runBefore ws i) (wordBefore ws i) (getD ws i 0)
@@ -203,6 +213,9 @@ pub last-none : (ws : List ℕ) (i : ℕ) → runBefore ws i ≡ 0 → mapped (w
 unfolding runBefore wordBefore
 last-none ws zero h = zero-unmapped 0 refl
 last-none ws (suc k) h = goes-zero (runBefore ws k) (wordBefore ws k) (getD ws k 0) h
+
+pub before-none : (ws : List ℕ) (i : ℕ) → mapped (wordBefore ws i) ≡ false → runBefore ws i ≡ 0
+before-none ws i f = by-dec (decLe 1 (runBefore ws i)) (λ some. true-false _ (last-mapped ws i some) f) (λ none. omega arith)
 
 pub before-word : (ws : List ℕ) (i : ℕ) → 0 < i → wordBefore ws i ≡ getD ws (i - 1) 0
 unfolding wordBefore

@@ -1,4 +1,5 @@
 pub mod PageWords
 pub mod Runs
+pub mod Running
 pub mod Walk
 pub mod Inner

@@ -1,9 +1,9 @@
 -- The computed form of Runs: one walk from page 0 that carries the running length. Law `ranges-exactly` says that `lawfulRanges` holds exactly where `RangesSound` does.
 use mathlib.Core.Bool.{Bool, true, false, _&&_}
 use mathlib.Core.List.{List, [], _∷_, _++_}
-use Prim.Native.Nat.{ℕ, zero, suc, _+_, _-_}
+use Prim.Native.Nat.{ℕ, suc, _+_, _-_}
 use lib.Dec.{leb, eqb}
-use lib.ListN.{length, getD, replicate}
+use lib.ListN.{length, replicate}
 use Rattle.words.specs.Counts.{one-if}
 use Rattle.words.specs.Wrapping.{wordBits, wrapSub}
 use Rattle.runs.specs.PageWords.{pageWord, mapped, rightsIn, frameIn}
@@ -16,20 +16,6 @@ joins v w = mapped v && (mapped w && (eqb (frameIn w) (frameIn v + 1) && eqb (ri
 -- the running length at word w, where it is n at the word v before
 unfoldable pub goesOn : ℕ → ℕ → ℕ → ℕ
 goesOn n v w = elim (joins v w) [ true ↦ n + 1 | false ↦ one-if (mapped w) ]
-
--- the word before page i, 0 for page 0
-unfoldable pub wordBefore : List ℕ → ℕ → ℕ
-wordBefore ws zero = 0
-wordBefore ws (suc i) = getD ws i 0
-
--- the running length before page i: the pages, up to there, of the longest run that page i - 1 is in; 0 where it is in none
-unfoldable pub runBefore : List ℕ → ℕ → ℕ
-runBefore ws zero = 0
-runBefore ws (suc i) = goesOn (runBefore ws i) (wordBefore ws i) (getD ws i 0)
-
--- the running length at page p
-unfoldable pub runTo : List ℕ → ℕ → ℕ
-runTo ws p = runBefore ws (p + 1)
 
 -- how many of the words ws, from the first on, extend the run of v
 unfoldable pub runAfter : ℕ → List ℕ → ℕ

@@ -18,9 +18,10 @@ use ranges::lawful::step_fits;
 use ranges::page_words::frame_in;
 use ranges::page_words::mapped;
 use ranges::page_words::one_if_mapped;
+use ranges::running::Carried;
+use ranges::running::pass_page;
+use ranges::running::pass_stretch;
 use ranges::walk::Stretch;
-use ranges::walk::goes_on;
-use ranges::walk::joined;
 use ranges::walk::least;
 use ranges::walk::over;
 use runs::PAGE_WORDS;
@@ -136,28 +137,37 @@ fn walk_space(
     ensures { λ r. ⌜ r .sound ≡ partSound opened (now (frames .entry)) pool first (now (part .entry)) (now (ranges .entry)) ⌝ }
     ensures { λ r. ⌜ (r .sound ≡ true → r .mapped ≡ count pagesInSpace (pageMapped (now (part .entry)))) ⌝ }
 {
-    let mut n: u32 = 0;
-    let mut v: u32 = 0;
+    let mut carried = Carried {
+        running: 0,
+        word: 0,
+    };
     let mut at: usize = 0;
     let mut m: u32 = 0;
     let mut i: u32 = 0;
     while i < PAGES {
-        let w = part[i as usize];
-        let on = joined(v, w);
-        if !step_fits(ranges, on, at, Page(i), n, v, w) {
+        let here = pass_page(part, Page(i), carried);
+        let on = 1 < here.running;
+        if !step_fits(
+            ranges,
+            on,
+            at,
+            Page(i),
+            carried.running,
+            carried.word,
+            here.word,
+        ) {
             return unsound();
         }
-        if !page_fits(frames, pool, opened, first + i, w) {
+        if !page_fits(frames, pool, opened, first + i, here.word) {
             return unsound();
         }
-        at = next_place(on, at, i, n, v);
-        let along = over_fitting(frames, pool, first, part, Page(i + 1), w);
-        n = goes_on(n, v, w) + along.mapped;
-        m += one_if_mapped(w) + along.mapped;
-        v = along.last;
+        at = next_place(on, at, i, carried.running, carried.word);
+        let along = over_fitting(frames, pool, first, part, Page(i + 1), here.word);
+        m += one_if_mapped(here.word) + along.mapped;
+        carried = pass_stretch(part, Page(i + 1), here, along);
         i += 1 + along.pages;
     }
-    let sound = rest_fits(ranges, at, n, v);
+    let sound = rest_fits(ranges, at, carried.running, carried.word);
     Walked { sound, mapped: m }
 }
 
