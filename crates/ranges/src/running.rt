@@ -1,7 +1,9 @@
 // The running length, carried from page to page by the walk that checks a space: at each page the number of pages of its longest run up to there, 0 where it is in none.
 ghost use mathlib.Core.Path.{_≡_};
 ghost use Prim.Native.Nat.{_+_, _≤_, _<_};
+ghost use lib.Dec.{ltb};
 ghost use lib.ListN.{length, getD};
+ghost use Rattle.words.specs.Counts.{one-if};
 ghost use Rattle.runs.specs.PageWords.{pagesInSpace};
 ghost use Rattle.runs.specs.Running.{RunningLength, Carries, RunningAlong};
 ghost use Rattle.runs.specs.Inner.{Along};
@@ -42,4 +44,14 @@ pub fn pass_stretch(part: &[u32], b: Page, before: Carried, along: Stretch) -> C
         running: before.running + along.mapped,
         word: along.last,
     }
+}
+
+// 1 for a page in a run, which is mapped, 0 for any other; by the running length there.
+pub fn one_if_in_run(running: u32) -> u32
+    ensures { λ r. ⌜ r ≡ one-if (ltb 0 running) ⌝ }
+{
+    if 0 < running {
+        return 1;
+    }
+    0
 }

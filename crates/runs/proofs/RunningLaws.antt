@@ -17,7 +17,7 @@ use Rattle.runs.specs.Running.{RunningLength, in-none, Carries, RunningA
 use Rattle.runs.specs.Walk.{joins, goesOn}
 use Rattle.runs.specs.Inner.{Empty, Onward, Along, nowhere, empty, onward}
 use Rattle.runs.proofs.WordLaws.{zero-unmapped, joins-at, join, goes-join, goes-new, ahead-joins}
-use Rattle.runs.proofs.WalkLaws.{wordBefore, runBefore, before-suc, before-le, before-none, last-none}
+use Rattle.runs.proofs.WalkLaws.{wordBefore, runBefore, before-suc, before-le, before-none, last-mapped, last-none}
 use Rattle.runs.proofs.RunsLaws.{running-before, running-is}
 
 module _ (ws : List ℕ) where
@@ -51,6 +51,15 @@ module _ (ws : List ℕ) where
         let some : 1 ≤ n = by-dec (decLe 1 n) (λ y. y) (λ z. true-false (mapped v) (joins-at v w t .this) (ap mapped (s .1) ∙ last-none ws i (omega (arith, s .0)))) in
         lt-ltb 1 m (omega (arith, goes-join n v w t)) ∙ sym t)
         (λ t. le-ltb 1 m (omega (arith, goes-new n v w t, one-if-le (mapped w))) ∙ sym t)
+
+  -- a page is mapped where the running length is above 0
+  pub running-mapped : (p n : ℕ) → p < length ws → RunningLength ws p n → ltb 0 n ≡ mapped (getD ws p 0)
+  unfolding wordBefore
+  running-mapped p n h r =
+      let e = running-is ws p n h r in
+      by-dec (decLe 1 n)
+      (λ some. lt-ltb 0 n some ∙ sym (last-mapped ws (suc p) (omega arith)))
+      (λ none. le-ltb 0 n (omega arith) ∙ sym (last-none ws (suc p) (omega arith)))
 
   pub carries-le : (i n v : ℕ) → i ≤ length ws → Carries ws i n v → n ≤ i
   carries-le i n v h c = omega (arith, carries-is i n v h c .0, before-le ws i)

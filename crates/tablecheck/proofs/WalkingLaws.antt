@@ -137,8 +137,8 @@ module _ (ws : List ℕ) where
       let s : c + (r + m) ≡ c + r + m = omega arith in
       rw (jj, s) (count-along (i + 1) w p m (c + r) (count-step (pageMapped ws) i c r e q) along)
 
-pub one-small : (w r : ℕ) → r ≡ one-if (mapped w) → r ≤ 1
-one-small w r e = let q = one-if-le (mapped w) in omega arith
+pub one-small : (b : Bool) (r : ℕ) → r ≡ one-if b → r ≤ 1
+one-small b r e = let q = one-if-le b in omega arith
 
 -- those of a space and of the spaces before it
 module _ (ps : List ℕ) (l : length ps ≡ 4096) (s : ℕ) (h : s ≤ 3) where

@@ -17,8 +17,8 @@ use ranges::lawful::rest_fits;
 use ranges::lawful::step_fits;
 use ranges::page_words::frame_in;
 use ranges::page_words::mapped;
-use ranges::page_words::one_if_mapped;
 use ranges::running::Carried;
+use ranges::running::one_if_in_run;
 use ranges::running::pass_page;
 use ranges::running::pass_stretch;
 use ranges::walk::Stretch;
@@ -163,7 +163,7 @@ fn walk_space(
         }
         at = next_place(on, at, i, carried.running, carried.word);
         let along = over_fitting(frames, pool, first, part, Page(i + 1), here.word);
-        m += one_if_mapped(here.word) + along.mapped;
+        m += one_if_in_run(here.running) + along.mapped;
         carried = pass_stretch(part, Page(i + 1), here, along);
         i += 1 + along.pages;
     }

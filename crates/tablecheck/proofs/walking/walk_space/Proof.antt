@@ -1,5 +1,5 @@
 use mathlib.Core.Path.{_≡_, ap, sym, _∙_}
-use Prim.Native.Nat.{ℕ, _+_, _-_}
+use Prim.Native.Nat.{_+_, _-_}
 use native.Mathlib.Omega.{arith}
 use lib.ListN.{getD}
 use borrow.Author.Tests.{not-true, not-false}
@@ -8,8 +8,7 @@ use Rattle.words.specs.Searches.{allFrom, every}
 use Rattle.words.proofs.Cases.{true-false}
 use Rattle.words.proofs.SearchLaws.{all-stop, all-end}
 use Rattle.words.proofs.CountLaws.{count-le}
-use Rattle.runs.specs.PageWords.{mapped}
-use Rattle.runs.proofs.RunningLaws.{carries-page}
+use Rattle.runs.proofs.RunningLaws.{carries-page, running-mapped}
 use Rattle.runs.proofs.StepLaws.{run-le, along-room}
 use Rattle.runs.proofs.CheckLaws.{Checking, check-start, check-room, goes-here, check-step, check-along, end-room, end-holds, word-holds, check-end, refuted}
 use Rattle.tablecheck.specs.Inner.{pageMapped, pageFits}
@@ -22,7 +21,7 @@ use Rattle.tablecheck.proofs.walking.walk_space.Lts as lts
 use Rattle.ranges.proofs.lawful.next_place.Reads as next-place-reads
 use Rattle.ranges.proofs.lawful.rest_fits.Reads as rest-fits-reads
 use Rattle.ranges.proofs.lawful.step_fits.Reads as step-fits-reads
-use Rattle.ranges.proofs.page_words.one_if_mapped.Reads as one-if-mapped-reads
+use Rattle.ranges.proofs.running.one_if_in_run.Reads as one-if-in-run-reads
 use Rattle.ranges.proofs.running.pass_page.Reads as pass-page-reads
 use Rattle.ranges.proofs.running.pass_stretch.Reads as pass-stretch-reads
 use Rattle.tablecheck.proofs.walking.over_fitting.Reads as over-fitting-reads
@@ -86,18 +85,18 @@ add-m c = search needs
 over-fitting-requires : tie.Need-over-fitting-requires Inv-loop μ-loop
 over-fitting-requires c κs = (omega arith, (omega arith, (omega arith, (omega arith, omega arith))))
 
-one-if-mapped-requires : tie.Need-one-if-mapped-requires Inv-loop μ-loop
-one-if-mapped-requires c κs = search needs
+one-if-in-run-requires : tie.Need-one-if-in-run-requires Inv-loop μ-loop
+one-if-in-run-requires c κs = search needs
 
 add-m-2 : tie.Need-add-m-2 Inv-loop μ-loop
 add-m-2 c =
     let room = along-room _ _ _ _ _ (omega arith) (c .before .before .over-fitting .ensures .0) in
-    omega (arith, room .0, room .1, one-small _ _ (c .before .one-if-mapped .ensures))
+    omega (arith, room .0, room .1, one-small _ _ (c .before .one-if-in-run .ensures))
 
 add-m-3 : tie.Need-add-m-3 Inv-loop μ-loop
 add-m-3 c =
     let room = along-room _ _ _ _ _ (omega arith) (c .before .before .over-fitting .ensures .0) in
-    omega (arith, room .0, room .1, one-small _ _ (c .before .one-if-mapped .ensures), c .before .before .before .before .before .before .before .before .before .before .before .loop .inv .1 .1, count-le (c .before .before .before .before .before .before .before .before .before .before .before .loop .i) (pageMapped (c .before .before .before .before .before .before .before .before .before .before .before .before .before .before .before .args .part .now)))
+    omega (arith, room .0, room .1, one-small _ _ (c .before .one-if-in-run .ensures), c .before .before .before .before .before .before .before .before .before .before .before .loop .inv .1 .1, count-le (c .before .before .before .before .before .before .before .before .before .before .before .loop .i) (pageMapped (c .before .before .before .before .before .before .before .before .before .before .before .before .before .before .before .args .part .now)))
 
 add-t18 : tie.Need-add-t18 Inv-loop μ-loop
 add-t18 c = search needs
@@ -124,7 +123,7 @@ loop-again c =
       check-along _ _ _ _ _ _ _ _ _ _ _ turn (along .0) (omega arith) (c .before .pass-stretch .ensures .1),
       (
         fits-turn _ _ _ _ _ _ _ _ _ _ _ (c .before .before .before .before .before .before .before .before .before .before .before .before .before .loop .inv .1 .0) word (c .before .before .before .before .before .before .before .before .before .before .before .before .loop-test .taken) (sym (c .before .before .before .before .before .before .before .page-fits .ensures) ∙ not-false _ (c .before .before .before .before .before .before .if2 .left)) (along .0) (along .1 .1) (omega arith),
-        count-turn _ _ _ _ _ _ _ _ (c .before .before .before .before .before .before .before .before .before .before .before .before .before .loop .inv .1 .1) (c .before .before .before .one-if-mapped .ensures ∙ ap (λ (x : ℕ). one-if (mapped x)) word) (along .0) (omega arith),
+        count-turn _ _ _ _ _ _ _ _ (c .before .before .before .before .before .before .before .before .before .before .before .before .before .loop .inv .1 .1) (c .before .before .before .one-if-in-run .ensures ∙ ap one-if (running-mapped _ _ _ (omega arith) (c .before .before .before .before .before .before .before .before .before .before .before .pass-page .ensures .0))) (along .0) (omega arith),
       ),
     )
 
@@ -156,7 +155,7 @@ walk-space-spec =
     next-place-requires
     add-m
     over-fitting-requires
-    one-if-mapped-requires
+    one-if-in-run-requires
     add-m-2
     add-m-3
     add-t18
