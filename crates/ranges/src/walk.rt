@@ -8,7 +8,6 @@ ghost use Rattle.runs.specs.Walk.{joins, goesOn};
 ghost use Rattle.runs.specs.Inner.{Empty, Onward, Along};
 use crate::page_words::frame_in;
 use crate::page_words::mapped;
-use crate::page_words::one_if_mapped;
 use crate::page_words::rights_in;
 use blocks::LAST_FRAME;
 use runs::PAGE_WORDS;
@@ -44,7 +43,10 @@ pub fn goes_on(n: u32, v: u32, w: u32) -> u32
     if joined(v, w) {
         return n + 1;
     }
-    one_if_mapped(w)
+    if mapped(w) {
+        return 1;
+    }
+    0
 }
 
 // The smaller of two; all that is needed of it is that it is at most either.

@@ -22,8 +22,8 @@ use Rattle.runs.specs.Running.{RunningLength, Carries}
 use Rattle.runs.specs.Walk.{joins, goesOn, bitWord, withBits, ended, entryOf, entries, rangeWords, same, lawfulRanges}
 use Rattle.runs.specs.Inner.{Empty, Onward, Along, nowhere, empty, onward, Decides, EndFits, WordFits, zeroFrom}
 use Rattle.runs.proofs.WordLaws.{zero-unmapped, ahead, joins-at, goes-join, goes-new, bit-none, of-bit, bit-zero, zero-word, mapped-word, word-cases, lawful-word, own-bit}
-use Rattle.runs.proofs.RunningLaws.{carries-is, running-page, running-joins}
-use Rattle.runs.proofs.StepLaws.{run-is, last-is, walk-empty, walk-onward, run-none, Walked, walk-start, run-le, at-length, Left, left-step, left-end, left-room, walk-step, zeros-follow, stops-step, stops-end, bit-run, walk-end}
+use Rattle.runs.proofs.RunningLaws.{carries-is, no-run, running-only, running-joins}
+use Rattle.runs.proofs.StepLaws.{inside-words, run-is, word-is, walk-empty, walk-onward, Walked, walk-start, run-le, at-length, Left, left-step, left-end, left-room, walk-step, zeros-follow, stops-step, stops-end, bit-run, walk-end}
 use Rattle.runs.proofs.WalkLaws.{wordBefore, runBefore, goes-zero, before-le, whole, whole-step, bit-at, withBits-at, length-withBits, ended-short, ended-long, ended-on, length-entry, last-mapped, last-none, before-word}
 
 pub same-refl : (xs : List ℕ) → same xs xs ≡ true
@@ -183,11 +183,11 @@ module _ (ws rs : List ℕ) (i n v at : ℕ) (s : Checking ws rs i n v at) where
   pub end-room : i ≡ 1024 → at + length (ended false i n v) ≤ 512
   end-room h = left-room _ _ _ _ _ _ (s .walked) false (left-end _ _ _ _ _ _ (s .walked) h)
 
-  -- what the running length at page i says
+  -- the running length at page i as the walk computes it, and whether the run goes on there
   pub goes-here : (w m : ℕ) → i < 1024 → w ≡ getD ws i 0 → RunningLength ws i m → (m ≡ goesOn n v w) × (ltb 1 m ≡ joins v w)
   goes-here w m h e r =
       let lt : i < length ws = omega (arith, s .walked .size) in
-      (rw e (running-page ws i n v lt (s .walked .carries) m r), running-joins ws i n v lt (s .walked .carries) w m e r)
+      (running-only ws i n v lt (s .walked .carries) w m e r, running-joins ws i n v lt (s .walked .carries) w m e r)
 
   -- the words that are listed stand there
   taken-more : (on : Bool) → at + length (ended on i n v) ≤ 512 → EndFits rs on at i n v → take (at + length (ended on i n v)) rs ≡ take at rs ++ ended on i n v
@@ -260,21 +260,21 @@ module _ (ws rs : List ℕ) (i n v at : ℕ) (s : Checking ws rs i n v at) where
     before-zero m =
         by-dec (decLe 1 i)
         (λ pos.
-        let v-is : v ≡ getD ws (i - 1) 0 = last-is _ _ _ _ _ _ (s .walked) ∙ before-word ws i pos in
+        let v-is : v ≡ getD ws (i - 1) 0 = word-is _ _ _ _ _ _ (s .walked) ∙ before-word ws i pos in
         v-is ∙ word-at (i - 1) (omega (arith, s .walked .inside)) ∙ bit-none _ (getD ws (i - 1) 0) (ap mapped (sym v-is) ∙ m))
-        (λ none. let z : i ≡ 0 = omega arith in last-is _ _ _ _ _ _ (s .walked) ∙ ap (wordBefore ws) z)
+        (λ none. let z : i ≡ 0 = omega arith in word-is _ _ _ _ _ _ (s .walked) ∙ ap (wordBefore ws) z)
 
     bit-fits : whole ws i ≡ runBefore ws i → rangeBit v ≡ leb 8 n
     bit-fits w =
         by-dec (decLe 1 n)
         (λ h.
         let le = run-le _ _ _ _ _ _ (s .walked) in
-        let v-is : v ≡ getD ws (i - 1) 0 = last-is _ _ _ _ _ _ (s .walked) ∙ before-word ws i (omega arith) in
+        let v-is : v ≡ getD ws (i - 1) 0 = word-is _ _ _ _ _ _ (s .walked) ∙ before-word ws i (omega arith) in
         let x : getD ws (i - 1) 0 ≡ bitWord (leb 8 n) (getD ws (i - 1) 0) = word-at (i - 1) (omega (arith, s .walked .inside)) ∙ bit-run _ _ _ _ _ _ (s .walked) w (i - 1) (omega arith) (omega arith) in
-        of-bit (leb 8 n) v (ap mapped (last-is _ _ _ _ _ _ (s .walked)) ∙ last-mapped ws i (omega (arith, run-is _ _ _ _ _ _ (s .walked)))) (rw v-is x))
+        of-bit (leb 8 n) v (ap mapped (word-is _ _ _ _ _ _ (s .walked)) ∙ last-mapped ws i (omega (arith, run-is _ _ _ _ _ _ (s .walked)))) (rw v-is x))
         (λ h.
         let z : n ≡ 0 = omega arith in
-        let m : mapped v ≡ false = ap mapped (last-is _ _ _ _ _ _ (s .walked)) ∙ last-none ws i (sym (run-is _ _ _ _ _ _ (s .walked)) ∙ z) in
+        let m : mapped v ≡ false = ap mapped (word-is _ _ _ _ _ _ (s .walked)) ∙ last-none ws i (sym (run-is _ _ _ _ _ _ (s .walked)) ∙ z) in
         bit-zero v (before-zero m) ∙ sym (lt-leb 8 n (omega arith)))
 
     module _ (words : rs ≡ rangeWords ws) where
@@ -305,10 +305,10 @@ module _ (ws rs : List ℕ) (i n v at : ℕ) (s : Checking ws rs i n v at) where
         layout = lawful-word (leb 8 (whole ws (suc i))) w (rw e (word-at i h));
         bit = λ t ne.
             let j = joins-at v w (sym o ∙ t) in
-            let pos : 1 ≤ i = by-dec (decLe 1 i) (λ y. y) (λ z. true-false _ (j .this) (ap mapped (last-is _ _ _ _ _ _ (s .walked)) ∙ last-none ws i (omega (arith, before-le ws i)))) in
-            let v-is : v ≡ getD ws (i - 1) 0 = last-is _ _ _ _ _ _ (s .walked) ∙ before-word ws i pos in
+            let pos : 1 ≤ i = by-dec (decLe 1 i) (λ y. y) (λ z. true-false _ (j .this) (ap mapped (word-is _ _ _ _ _ _ (s .walked)) ∙ last-none ws i (omega (arith, before-le ws i)))) in
+            let v-is : v ≡ getD ws (i - 1) 0 = word-is _ _ _ _ _ _ (s .walked) ∙ before-word ws i pos in
             let k : suc (i - 1) ≡ i = omega arith in
-            let st : whole ws (suc i) ≡ whole ws i = whole-step ws i (omega (arith, s .walked .size)) (rw (← e, ← last-is _ _ _ _ _ _ (s .walked)) (sym o ∙ t)) in
+            let st : whole ws (suc i) ≡ whole ws i = whole-step ws i (omega (arith, s .walked .size)) (rw (← e, ← word-is _ _ _ _ _ _ (s .walked)) (sym o ∙ t)) in
             let x : getD ws (i - 1) 0 ≡ bitWord (leb 8 (whole ws (suc i))) (getD ws (i - 1) 0) = word-at (i - 1) (omega (arith, s .walked .inside)) ∙ ap (λ (y : ℕ). bitWord (leb 8 y) (getD ws (i - 1) 0)) (ap (whole ws) k ∙ sym st) in
             let y : v ≡ bitWord (leb 8 (whole ws (suc i))) v = rw v-is x in
             of-bit (leb 8 (whole ws (suc i))) w (j .next) (rw e (word-at i h)) ∙ sym (of-bit (leb 8 (whole ws (suc i))) v (j .this) y);
@@ -343,12 +343,12 @@ check-empty ws rs i at k s e = record {
   running = λ q lo hi. absurd (omega arith);
 }
 
--- one number and one word are carried
+-- whatever is carried at page i is the same number and word
 check-carries : (ws rs : List ℕ) (i n v at m w : ℕ) → Checking ws rs i n v at → Carries ws i m w → Checking ws rs i m w at
 check-carries ws rs i n v at m w s c =
-    let e = carries-is ws i m w (omega (arith, s .walked .size, s .walked .inside)) c in
+    let e = carries-is ws i m w (inside-words _ _ _ _ _ _ (s .walked)) c in
     let a : m ≡ n = e .0 ∙ sym (run-is _ _ _ _ _ _ (s .walked)) in
-    let b : w ≡ v = e .1 ∙ sym (last-is _ _ _ _ _ _ (s .walked)) in
+    let b : w ≡ v = e .1 ∙ sym (word-is _ _ _ _ _ _ (s .walked)) in
     rw (a, b) s
 
 pub check-along : (ws rs : List ℕ) (i n v at p m j n′ v′ : ℕ) → Checking ws rs i n v at → Along ws i v p m → j ≡ i + p → Carries ws (i + p) n′ v′ → Checking ws rs j n′ v′ at
@@ -357,7 +357,7 @@ check-along ws rs i n v at p m j n′ v′ s along e c = rw e (check-carries ws 
     go : (p m : ℕ) → Along ws i v p m → Checking ws rs (i + p) (n + m) (v + m) at
     go p m nowhere = rw (add-zero i, add-zero n, add-zero v) s
     go p m (empty z e) =
-        let none : n ≡ 0 = run-none _ _ _ _ _ _ (s .walked) z in
+        let none : n ≡ 0 = no-run _ _ _ _ (inside-words _ _ _ _ _ _ (s .walked)) (s .walked .carries) z in
         rw (none, z) (check-empty ws rs i at p (rw (none, z) at s) e)
     go p m (onward t o) = check-onward ws rs i n v at s p t o
 

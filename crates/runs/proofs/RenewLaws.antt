@@ -19,7 +19,8 @@ use Rattle.runs.specs.PageWords.{mapped, rangeBit}
 use Rattle.runs.specs.Walk.{joins, goesOn, bitWord, withBits, ended, entryOf, entries}
 use Rattle.runs.specs.Inner.{Empty, Onward, Along, nowhere, empty, onward, Marked, zeroFrom, markedPages, EndedRun}
 use Rattle.runs.proofs.WordLaws.{zero-unmapped, mapped-word, own-bit, joins-at, bit-none, goes-join, goes-new}
-use Rattle.runs.proofs.StepLaws.{walk-empty, walk-onward, run-none, next-on, next-short, next-long, Walked, walk-start, run-le, at-length, left-step, left-end, left-room, walk-step, stops-step, stops-end, bit-run, walk-end}
+use Rattle.runs.proofs.RunningLaws.{no-run}
+use Rattle.runs.proofs.StepLaws.{inside-words, walk-empty, walk-onward, next-on, next-short, next-long, Walked, walk-start, run-le, at-length, left-step, left-end, left-room, walk-step, stops-step, stops-end, bit-run, walk-end}
 use Rattle.runs.proofs.WalkLaws.{runBefore, goes-zero, whole, bit-at, withBits-at, length-withBits, ended-short, ended-long, ended-on}
 
 -- Marking, word by word
@@ -220,6 +221,6 @@ renew-along ws xs rs i n v at p m j w s along e f = rw (e, f) (go p m along)
     go : (p m : ℕ) → Along xs i v p m → Renewing ws xs rs (i + p) (n + m) (v + m) at
     go p m nowhere = rw (add-zero i, add-zero n, add-zero v) s
     go p m (empty z e) =
-        let none : n ≡ 0 = run-none _ _ _ _ _ _ (s .walked) z in
+        let none : n ≡ 0 = no-run _ _ _ _ (inside-words _ _ _ _ _ _ (s .walked)) (s .walked .carries) z in
         rw (none, z) (renew-empty ws xs rs i at p (rw (none, z) at s) e)
     go p m (onward t o) = renew-onward ws xs rs i n v at s p t o

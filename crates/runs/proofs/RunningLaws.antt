@@ -13,7 +13,7 @@ use borrow.Author.Tests.{lt-ltb, le-ltb}
 use Rattle.words.proofs.Cases.{by-test, by-dec, true-false}
 use Rattle.words.proofs.CountLaws.{one-if-le}
 use Rattle.runs.specs.PageWords.{mapped}
-use Rattle.runs.specs.Running.{RunningLength, in-none, Carries, RunningAlong, by-one, at-zero}
+use Rattle.runs.specs.Running.{RunningLength, in-none, Carries, start, after, RunningAlong, by-one, at-zero}
 use Rattle.runs.specs.Walk.{joins, goesOn}
 use Rattle.runs.specs.Inner.{Empty, Onward, Along, nowhere, empty, onward}
 use Rattle.runs.proofs.WordLaws.{zero-unmapped, joins-at, join, goes-join, goes-new, ahead-joins}
@@ -21,30 +21,30 @@ use Rattle.runs.proofs.WalkLaws.{wordBefore, runBefore, before-suc, bef
 use Rattle.runs.proofs.RunsLaws.{running-before, running-is}
 
 module _ (ws : List ℕ) where
-  -- what is carried, by the walk's definition
+  -- what is carried is what `runBefore` and `wordBefore` compute
   pub carries-is : (i n v : ℕ) → i ≤ length ws → Carries ws i n v → (n ≡ runBefore ws i) × (v ≡ wordBefore ws i)
   unfolding runBefore wordBefore
-  carries-is zero n v h c = c .start refl
-  carries-is (suc p) n v h c = (running-is ws p n (omega arith) (c .running p (sym (add-one p))), c .word p (sym (add-one p)))
+  carries-is i n v h start = (refl, refl)
+  carries-is i n v h (after {p} {n = m} r) = rw (add-one p) (running-is ws p m (omega arith) r, refl)
 
-  pub carries-start : Carries ws 0 0 0
-  carries-start = record { start = λ z. (refl, refl); running = λ p e. absurd (omega arith); word = λ p e. absurd (omega arith) }
+  pub carries-le : (i n v : ℕ) → i ≤ length ws → Carries ws i n v → n ≤ i
+  carries-le i n v h c = omega (arith, carries-is i n v h c .0, before-le ws i)
 
   module _ (i n v : ℕ) (h : i < length ws) (c : Carries ws i n v) where
-    -- one page further
     next-is : goesOn n v (getD ws i 0) ≡ runBefore ws (suc i)
     next-is = let s = carries-is i n v (omega arith) c in rw (s .0, s .1) (sym (before-suc ws i))
 
-    pub page-running : (w m : ℕ) → w ≡ getD ws i 0 → m ≡ goesOn n v w → RunningLength ws i m
-    page-running w m e g = let s : m ≡ runBefore ws (suc i) = g ∙ rw e next-is in rw s (running-before ws i h)
+    -- one page further `goesOn` is the running length, and no other number is
+    pub running-next : (w m : ℕ) → w ≡ getD ws i 0 → m ≡ goesOn n v w → RunningLength ws i m
+    running-next w m e g = let s : m ≡ runBefore ws (suc i) = g ∙ rw e next-is in rw s (running-before ws i h)
 
-    pub running-page : (m : ℕ) → RunningLength ws i m → m ≡ goesOn n v (getD ws i 0)
-    running-page m r = running-is ws i m h r ∙ sym next-is
+    pub running-only : (w m : ℕ) → w ≡ getD ws i 0 → RunningLength ws i m → m ≡ goesOn n v w
+    running-only w m e r = rw e (running-is ws i m h r ∙ sym next-is)
 
     -- the run goes on at page i where the running length is above 1; where it is not, the run before it has ended
     pub running-joins : (w m : ℕ) → w ≡ getD ws i 0 → RunningLength ws i m → ltb 1 m ≡ joins v w
     running-joins w m e r =
-        let g : m ≡ goesOn n v w = rw e (running-page m r) in
+        let g = running-only w m e r in
         let s = carries-is i n v (omega arith) c in
         by-test (joins v w)
         (λ t.
@@ -61,16 +61,13 @@ module _ (ws : List ℕ) where
       (λ some. lt-ltb 0 n some ∙ sym (last-mapped ws (suc p) (omega arith)))
       (λ none. le-ltb 0 n (omega arith) ∙ sym (last-none ws (suc p) (omega arith)))
 
-  pub carries-le : (i n v : ℕ) → i ≤ length ws → Carries ws i n v → n ≤ i
-  carries-le i n v h c = omega (arith, carries-is i n v h c .0, before-le ws i)
-
   -- after page i
   pub carries-page : (i m w : ℕ) → RunningLength ws i m → w ≡ getD ws i 0 → Carries ws (i + 1) m w
-  carries-page i m w r e = record {
-    start = λ z. absurd (omega arith);
-    running = λ p q. let s : p ≡ i = omega arith in rw s r;
-    word = λ p q. let s : p ≡ i = omega arith in rw s e;
-  }
+  carries-page i m w r e = rw e (after r)
+
+  page-carried : (i p n v : ℕ) → i ≡ p + 1 → Carries ws i n v → RunningLength ws p n
+  page-carried i p n v e start = absurd (omega arith)
+  page-carried i p n v e (after {p = q} r) = let s : p ≡ q = omega arith in rw s r
 
   -- over words that count up
   carries-onward : (i n v k : ℕ) → i + k ≤ length ws → mapped v ≡ true → Carries ws i n v → Onward ws i v k → Carries ws (i + k) (n + k) (v + k)
@@ -81,7 +78,7 @@ module _ (ws : List ℕ) where
       let before = carries-onward i n v k (omega arith) m c (record { room = omega arith; frames = omega arith; next = λ j lt. o .next j (omega arith) }) in
       let word : v + (k + 1) ≡ getD ws (i + k) 0 = sym (o .next k (omega arith)) in
       let on : n + k + 1 ≡ goesOn (n + k) (v + k) (v + (k + 1)) = sym (goes-join (n + k) _ _ (join _ _ (ahead-joins v k m (omega arith)))) in
-      let here = carries-page (i + k) (n + k + 1) (v + (k + 1)) (page-running (i + k) (n + k) (v + k) (omega arith) before _ _ word on) word in
+      let here = carries-page (i + k) (n + k + 1) (v + (k + 1)) (running-next (i + k) (n + k) (v + k) (omega arith) before _ _ word on) word in
       let a : i + suc k ≡ i + k + 1 = omega arith in
       let b : n + suc k ≡ n + k + 1 = omega arith in
       let d : v + suc k ≡ v + (k + 1) = omega arith in
@@ -98,6 +95,7 @@ module _ (ws : List ℕ) where
       let a : i + suc k ≡ i + k + 1 = omega arith in
       rw a (carries-page (i + k) 0 0 (unmapped-running (i + k) (zero-unmapped _ z)) (sym z))
 
+  -- where the word before is 0, so is the running length
   pub no-run : (i n v : ℕ) → i ≤ length ws → Carries ws i n v → v ≡ 0 → n ≡ 0
   no-run i n v h c z = let s = carries-is i n v h c in s .0 ∙ before-none ws i (ap mapped (sym (s .1)) ∙ zero-unmapped v z)
 
@@ -117,4 +115,4 @@ module _ (ws : List ℕ) where
       let room = o .room in
       let frames = o .frames in
       let part : Onward ws i v (j + 1) = record { room = omega arith; frames = omega arith; next = λ k less. o .next k (omega arith) } in
-      carries-onward i n v (j + 1) (omega arith) t c part .running (i + j) (omega arith))
+      page-carried (i + (j + 1)) (i + j) (n + (j + 1)) (v + (j + 1)) (omega arith) (carries-onward i n v (j + 1) (omega arith) t c part))

@@ -1,5 +1,5 @@
 -- The walk finds what Runs says: each entry is a longest run of at least 8 pages, each such run has its entry, the entries ascend, the range bit marks their pages,
--- and the running length is that of the longest run up to the page.
+-- and what it carries is the running length.
 use mathlib.Core.Path.{_≡_, refl, ap, _∙_, sym}
 use mathlib.Core.Bool.{Bool, true, false}
 use mathlib.Core.List.{List, [], _∷_, _++_, append-nil}
@@ -287,7 +287,7 @@ module _ (ws : List ℕ) where
       record { end = r .end; ge = omega arith; fits = r .fits; grows = omega (arith, r .grows, before-suc ws i); stop = r .stop; same = r .same ∙ whole-step ws i (omega arith) t })
       (λ t. record { end = i; ge = omega arith; fits = omega arith; grows = omega arith; stop = λ h. t; same = refl })
 
-  -- The running length is that of Runs: `runBefore` counts the pages of the longest run up to page p, and is the only number that does
+  -- `runBefore` is the running length, and no other number is
 
   pub running-before : (p : ℕ) → p < length ws → RunningLength ws p (runBefore ws (suc p))
   running-before p h =

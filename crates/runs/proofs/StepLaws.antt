@@ -15,11 +15,11 @@ use Rattle.words.specs.Inner.{sameIn, countsBeside, PassTo}
 use Rattle.words.proofs.Cases.{true-false}
 use Rattle.words.proofs.ScanLaws.{beside-at}
 use Rattle.runs.specs.PageWords.{mapped, frameIn}
-use Rattle.runs.specs.Running.{Carries}
+use Rattle.runs.specs.Running.{Carries, start}
 use Rattle.runs.specs.Walk.{joins, goesOn, bitWord, ended, entriesFrom, entries, rangeWords}
 use Rattle.runs.specs.Inner.{zeroFrom, Empty, Onward, Along, nowhere, empty, onward}
 use Rattle.runs.proofs.WordLaws.{frame-lt, zero-unmapped, join, not-joins, goes-join, goes-new, ahead-joins}
-use Rattle.runs.proofs.RunningLaws.{carries-is, carries-start, carries-le, carries-page, page-running, no-run}
+use Rattle.runs.proofs.RunningLaws.{carries-is, carries-le, carries-page, running-next}
 use Rattle.runs.proofs.WalkLaws.{wordBefore, runBefore, before-suc, whole, whole-end, whole-last, bit-at, bit-ended, entries-suc, entries-end, ended-short, ended-long, ended-on, length-entry, entries-few}
 
 -- the place of the next entry, in the three ways that a run goes
@@ -47,20 +47,20 @@ pub record Walked (ws rs : List ℕ) (i n v at : ℕ) : Type 0 where
 
 pub walk-start : (ws rs : List ℕ) → length ws ≡ 1024 → length rs ≡ 512 → Walked ws rs 0 0 0 0
 unfolding entries
-walk-start ws rs e f = record { size = e; table = f; inside = zero-le; carries = carries-start ws; place = zero-le; listed = refl }
+walk-start ws rs e f = record { size = e; table = f; inside = zero-le; carries = start; place = zero-le; listed = refl }
 
 module _ (ws rs : List ℕ) (i n v at : ℕ) (s : Walked ws rs i n v at) where
-  fits : i ≤ length ws
-  fits = omega (arith, s .size, s .inside)
+  pub inside-words : i ≤ length ws
+  inside-words = omega (arith, s .size, s .inside)
 
   pub run-is : n ≡ runBefore ws i
-  run-is = carries-is ws i n v fits (s .carries) .0
+  run-is = carries-is ws i n v inside-words (s .carries) .0
 
-  pub last-is : v ≡ wordBefore ws i
-  last-is = carries-is ws i n v fits (s .carries) .1
+  pub word-is : v ≡ wordBefore ws i
+  word-is = carries-is ws i n v inside-words (s .carries) .1
 
   pub run-le : n ≤ i
-  run-le = carries-le ws i n v fits (s .carries)
+  run-le = carries-le ws i n v inside-words (s .carries)
 
   pub at-length : length (take at rs) ≡ at
   at-length = length-take-le at rs (omega (arith, s .table, s .place))
@@ -77,12 +77,12 @@ module _ (ws rs : List ℕ) (i n v at : ℕ) (s : Walked ws rs i n v at) where
       record {
         more = entriesFrom (suc i) (goesOn n v w) w (drop (suc i) ws);
         is =
-            rw (o, e, run-is, last-is)
+            rw (o, e, run-is, word-is)
             (c ∙ ap (λ (x : ℕ). ended (joins (wordBefore ws i) (getD ws i 0)) i (runBefore ws i) (wordBefore ws i) ++ entriesFrom (suc i) x (getD ws i 0) (drop (suc i) ws)) (before-suc ws i));
       }
 
   pub left-end : i ≡ 1024 → Left false
-  left-end h = record { more = []; is = rw (run-is, last-is) (entries-end ws i (omega (arith, s .size))) ∙ sym (append-nil (ended false i n v)) }
+  left-end h = record { more = []; is = rw (run-is, word-is) (entries-end ws i (omega (arith, s .size))) ∙ sym (append-nil (ended false i n v)) }
 
   -- there is room for an entry
   pub left-room : (on : Bool) → Left on → at + length (ended on i n v) ≤ 512
@@ -93,10 +93,10 @@ module _ (ws rs : List ℕ) (i n v at : ℕ) (s : Walked ws rs i n v at) where
   -- one page further
   pub walk-step : (rs′ : List ℕ) (on : Bool) (w m at′ : ℕ) → i < 1024 → w ≡ getD ws i 0 → on ≡ joins v w → m ≡ goesOn n v w → at′ ≡ at + length (ended on i n v)
       → length rs′ ≡ 512 → take at′ rs′ ≡ take at rs ++ ended on i n v → Walked ws rs′ (i + 1) m w at′
-  unfolding wordBefore left-step
+  unfolding left-step
   walk-step rs′ on w m at′ h e o g p l t =
       let x = left-step on w h e o in
-      let running = page-running ws i n v (omega (arith, s .size)) (s .carries) w m e g in
+      let running = running-next ws i n v (omega (arith, s .size)) (s .carries) w m e g in
       record {
         size = s .size;
         table = l;
@@ -108,13 +108,13 @@ module _ (ws rs : List ℕ) (i n v at : ℕ) (s : Walked ws rs i n v at) where
 
   -- where a run ends
   pub stops-step : (w : ℕ) → i < 1024 → w ≡ getD ws i 0 → joins v w ≡ false → whole ws i ≡ runBefore ws i
-  stops-step w h e t = whole-end ws i (omega (arith, s .size)) (rw (← e, ← last-is) t)
+  stops-step w h e t = whole-end ws i (omega (arith, s .size)) (rw (← e, ← word-is) t)
 
   pub stops-end : i ≡ 1024 → whole ws i ≡ runBefore ws i
   stops-end h = whole-last ws i (omega (arith, s .size))
 
   pub bit-run : whole ws i ≡ runBefore ws i → (q : ℕ) → q < i → i ≤ q + n → bit-at ws q ≡ bitWord (leb 8 n) (getD ws q 0)
-  bit-run w q lt le = rw run-is (bit-ended ws i q fits w lt (omega (arith, run-is)))
+  bit-run w q lt le = rw run-is (bit-ended ws i q inside-words w lt (omega (arith, run-is)))
 
   -- the end: the words taken are all entries
   pub walk-end : (rs′ : List ℕ) (at′ : ℕ) → i ≡ 1024 → at′ ≡ at + length (ended false i n v) → length rs′ ≡ 512 → take at′ rs′ ≡ take at rs ++ ended false i n v → (at′ ≡ length (entries ws)) × (take at′ rs′ ≡ entries ws)
@@ -193,7 +193,3 @@ pub along-none : (ws : List ℕ) (i w p m : ℕ) → Along ws i w p m → mapped
 along-none ws i w p m nowhere f = refl
 along-none ws i w p m (empty z e) f = refl
 along-none ws i w p m (onward t o) f = true-false (mapped w) t f
-
--- no run goes before a word 0
-pub run-none : (ws rs : List ℕ) (i n v at : ℕ) → Walked ws rs i n v at → v ≡ 0 → n ≡ 0
-run-none ws rs i n v at s z = no-run ws i n v (omega (arith, s .size, s .inside)) (s .carries) z

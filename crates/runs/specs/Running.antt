@@ -11,13 +11,12 @@ pub data RunningLength (ws : List ℕ) (p : ℕ) : ℕ → Type 0 where
   in-run : {x y : ℕ} → Longest ws x y → x ≤ p → p < y → RunningLength ws p (p + 1 - x)
   in-none : ((x y : ℕ) → Run ws x y → x ≤ p → p < y → ⊥) → RunningLength ws p 0
 
--- "carry the running length from page to page": before page i a walk has the number n, which is that of the page before, and the word v of that page; both are 0 before page 0
-pub record Carries (ws : List ℕ) (i n v : ℕ) : Type 0 where
-  pub start : i ≡ 0 → (n ≡ 0) × (v ≡ 0)
-  pub running : (p : ℕ) → i ≡ p + 1 → RunningLength ws p n
-  pub word : (p : ℕ) → i ≡ p + 1 → v ≡ getD ws p 0
+-- "carry the running length from page to page": before page i a walk has the running length at the page before, and that page's word; both are 0 before page 0
+pub data Carries (ws : List ℕ) : ℕ → ℕ → ℕ → Type 0 where
+  start : Carries ws 0 0 0
+  after : {p n : ℕ} → RunningLength ws p n → Carries ws (p + 1) n (getD ws p 0)
 
--- "at each page", also of k pages from page i on that are passed at once: from n, at the page before, the running length rises by one a page; or it was 0 and is 0 at each. What it is at their end comes last
+-- "at each page", also where k pages from page i on are passed at once: the running length, n at the page before, rises by one a page; or it is 0 there and at each. The last argument is the running length at their end
 pub data RunningAlong (ws : List ℕ) (i n k : ℕ) : ℕ → Type 0 where
   by-one : ((j : ℕ) → j < k → RunningLength ws (i + j) (n + (j + 1))) → RunningAlong ws i n k (n + k)
   at-zero : n ≡ 0 → ((j : ℕ) → j < k → RunningLength ws (i + j) 0) → RunningAlong ws i n k 0

@@ -17,7 +17,7 @@ use ranges::lawful::rest_fits;
 use ranges::lawful::step_fits;
 use ranges::page_words::frame_in;
 use ranges::page_words::mapped;
-use ranges::running::Carried;
+use ranges::running::at_start;
 use ranges::running::one_if_in_run;
 use ranges::running::pass_page;
 use ranges::running::pass_stretch;
@@ -137,37 +137,28 @@ fn walk_space(
     ensures { λ r. ⌜ r .sound ≡ partSound opened (now (frames .entry)) pool first (now (part .entry)) (now (ranges .entry)) ⌝ }
     ensures { λ r. ⌜ (r .sound ≡ true → r .mapped ≡ count pagesInSpace (pageMapped (now (part .entry)))) ⌝ }
 {
-    let mut carried = Carried {
-        running: 0,
-        word: 0,
-    };
+    let mut carried = at_start();
     let mut at: usize = 0;
     let mut m: u32 = 0;
     let mut i: u32 = 0;
     while i < PAGES {
         let here = pass_page(part, Page(i), carried);
-        let on = 1 < here.running;
-        if !step_fits(
-            ranges,
-            on,
-            at,
-            Page(i),
-            carried.running,
-            carried.word,
-            here.word,
-        ) {
+        let w = here.word;
+        // The run before page i goes on there, or ends (law `running-joins`).
+        let on = 1 < here.length;
+        if !step_fits(ranges, on, at, Page(i), carried.length, carried.word, w) {
             return unsound();
         }
-        if !page_fits(frames, pool, opened, first + i, here.word) {
+        if !page_fits(frames, pool, opened, first + i, w) {
             return unsound();
         }
-        at = next_place(on, at, i, carried.running, carried.word);
-        let along = over_fitting(frames, pool, first, part, Page(i + 1), here.word);
-        m += one_if_in_run(here.running) + along.mapped;
+        at = next_place(on, at, i, carried.length, carried.word);
+        let along = over_fitting(frames, pool, first, part, Page(i + 1), w);
+        m += one_if_in_run(here.length) + along.mapped;
         carried = pass_stretch(part, Page(i + 1), here, along);
         i += 1 + along.pages;
     }
-    let sound = rest_fits(ranges, at, carried.running, carried.word);
+    let sound = rest_fits(ranges, at, carried.length, carried.word);
     Walked { sound, mapped: m }
 }
 

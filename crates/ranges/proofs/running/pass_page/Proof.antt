@@ -1,6 +1,6 @@
 use mathlib.Core.Path.{refl}
 use native.Mathlib.Omega.{arith}
-use Rattle.runs.proofs.RunningLaws.{carries-le, page-running}
+use Rattle.runs.proofs.RunningLaws.{carries-le, running-next}
 use borrow.Author.Needs.{needs}
 use Rattle.ranges.proofs.running.pass_page.Statement.{statement}
 use Rattle.ranges.proofs.running.pass_page.Tie as tie
@@ -21,7 +21,7 @@ goes-on-requires : tie.Need-goes-on-requires
 goes-on-requires c κs = omega (arith, carries-le _ _ _ _ (omega arith) (c .before .before .before .pre .1 .1))
 
 returns : tie.Need-returns
-returns c = (page-running _ _ _ _ (omega arith) (c .before .before .before .before .pre .1 .1) _ _ refl (c .goes-on .ensures), refl)
+returns c = (running-next _ _ _ _ (omega arith) (c .before .before .before .before .pre .1 .1) _ _ refl (c .goes-on .ensures), refl)
 
 pub pass-page-spec : {M : Type 1} → statement M
 pass-page-spec =

@@ -22,6 +22,7 @@ use Rattle.ranges.proofs.lawful.next_place.Reads as next-place-reads
 use Rattle.ranges.proofs.lawful.rest_fits.Reads as rest-fits-reads
 use Rattle.ranges.proofs.lawful.step_fits.Reads as step-fits-reads
 use Rattle.ranges.proofs.running.one_if_in_run.Reads as one-if-in-run-reads
+use Rattle.ranges.proofs.running.at_start.Reads as at-start-reads
 use Rattle.ranges.proofs.running.pass_page.Reads as pass-page-reads
 use Rattle.ranges.proofs.running.pass_stretch.Reads as pass-stretch-reads
 use Rattle.tablecheck.proofs.walking.over_fitting.Reads as over-fitting-reads
@@ -31,14 +32,17 @@ use Rattle.tablecheck.proofs.walking.unsound.Reads as unsound-reads
 -- what is carried is the running length: `Checking` has it as `.walked .carries`
 abbrev Inv-loop : tie.InvT-loop
 Inv-loop frames pool opened first part ranges carried₀ at₀ m₀ i₀ carried at m i =
-    Checking part ranges i (carried .running) (carried .word) at
+    Checking part ranges i (carried .length) (carried .word) at
     × ((every (pageFits opened frames pool) first part ≡ allFrom (1024 - i) i (λ p. pageFits opened frames pool (first + p) (getD part p 0))) × (m ≡ count i (pageMapped part)))
 
 abbrev μ-loop : tie.MeasureT-loop
 μ-loop frames pool opened first part ranges carried₀ at₀ m₀ i₀ carried at m i = 1024 - i
 
+at-start-requires : tie.Need-at-start-requires Inv-loop μ-loop
+at-start-requires c κs = search needs
+
 loop-holds : tie.Need-loop-holds Inv-loop μ-loop
-loop-holds c = (check-start _ _ (omega arith) (omega arith), (fits-start _ _ _ _ _ (c .before .before .before .pre .1 .1 .1 .0), count-start _))
+loop-holds c = (rw (c .at-start .ensures .0, c .at-start .ensures .1) (check-start _ _ (omega arith) (omega arith)), (fits-start _ _ _ _ _ (c .before .before .before .before .pre .1 .1 .1 .0), count-start _))
 
 pass-page-requires : tie.Need-pass-page-requires Inv-loop μ-loop
 pass-page-requires c κs = (omega arith, (omega arith, c .before .loop .inv .0 .walked .carries))
@@ -96,10 +100,10 @@ add-m-2 c =
 add-m-3 : tie.Need-add-m-3 Inv-loop μ-loop
 add-m-3 c =
     let room = along-room _ _ _ _ _ (omega arith) (c .before .before .over-fitting .ensures .0) in
-    omega (arith, room .0, room .1, one-small _ _ (c .before .one-if-in-run .ensures), c .before .before .before .before .before .before .before .before .before .before .before .loop .inv .1 .1, count-le (c .before .before .before .before .before .before .before .before .before .before .before .loop .i) (pageMapped (c .before .before .before .before .before .before .before .before .before .before .before .before .before .before .before .args .part .now)))
+    omega (arith, room .0, room .1, one-small _ _ (c .before .one-if-in-run .ensures), c .before .before .before .before .before .before .before .before .before .before .before .loop .inv .1 .1, count-le (c .before .before .before .before .before .before .before .before .before .before .before .loop .i) (pageMapped (c .before .before .before .before .before .before .before .before .before .before .before .before .before .before .before .before .args .part .now)))
 
-add-t18 : tie.Need-add-t18 Inv-loop μ-loop
-add-t18 c = search needs
+add-t19 : tie.Need-add-t19 Inv-loop μ-loop
+add-t19 c = search needs
 
 pass-stretch-requires : tie.Need-pass-stretch-requires Inv-loop μ-loop
 pass-stretch-requires c κs = (c .before .before .before .before .before .before .before .before .before .before .before .loop .inv .0 .walked .size, (omega arith, (carries-page _ _ _ _ (c .before .before .before .before .before .before .before .before .before .pass-page .ensures .0) (c .before .before .before .before .before .before .before .before .before .pass-page .ensures .1), (c .before .before .over-fitting .ensures .0, c .before .before .over-fitting .ensures .1 .0))))
@@ -143,6 +147,7 @@ walk-space-spec =
     (tie.spec
     Inv-loop
     μ-loop
+    at-start-requires
     loop-holds
     pass-page-requires
     step-fits-requires
@@ -158,7 +163,7 @@ walk-space-spec =
     one-if-in-run-requires
     add-m-2
     add-m-3
-    add-t18
+    add-t19
     pass-stretch-requires
     add-i
     add-i-2
