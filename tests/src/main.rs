@@ -4,6 +4,7 @@ mod kernel;
 mod listing;
 mod lists;
 mod random;
+mod runs;
 mod second;
 mod states;
 
