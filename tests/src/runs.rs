@@ -1,4 +1,4 @@
-//! Tables that are right but for one run: its range entry and range bits say something else than its pages. Each is unsound.
+//! Tables that are right but for one run, whose range entry and range bits say something other than its pages. Each is unsound.
 use crate::kernel::*;
 use crate::random::Random;
 
@@ -61,16 +61,20 @@ fn unmap_unlisted(w: &mut World, space: usize, first: usize, count: usize) -> bo
     answer.number == 0
 }
 
-/// One range is damaged: which of `KINDS` was done, or nothing where no range can be.
+/// Gives a page other rights, by its word alone.
+fn change_rights(r: &mut Random, word: &mut u32) {
+    let rights = *word / RIGHTS % 8;
+    *word = *word - RIGHTS * rights + RIGHTS * ((rights + 1 + r.below(7) as u32) % 8);
+}
+
+/// Damages one range and says which of `KINDS` was done, or nothing where no range can be damaged.
 pub fn damage_run(r: &mut Random, w: &mut World) -> Option<String> {
     let Range { space, entry, base, limit } = some_range(r, w)?;
     let kind = r.below(KINDS.len() as u64) as usize;
     match KINDS[kind] {
         "run_over_other_rights" => {
             let page = base + r.below((limit - base) as u64) as usize;
-            let word = &mut w.pages[1024 * space + page];
-            let rights = *word / RIGHTS % 8;
-            *word = *word - RIGHTS * rights + RIGHTS * ((rights + 1 + r.below(7) as u32) % 8);
+            change_rights(r, &mut w.pages[1024 * space + page]);
         }
         "run_over_unmapped_page" => {
             let page = base + 1 + r.below((limit - base - 2) as u64) as usize;
@@ -94,12 +98,13 @@ pub fn damage_run(r: &mut Random, w: &mut World) -> Option<String> {
             w.ranges[entry + 1] = base as u32 + 7;
             set_bits(w, space, base..base + 7, true);
         }
-        _ => {
+        "run_not_listed" => {
             let end = 512 * (space + 1);
             w.ranges.copy_within(entry + 4..end, entry);
             w.ranges[end - 4..end].fill(0);
             set_bits(w, space, base..limit, false);
         }
+        other => unreachable!("{other}"),
     }
     Some(KINDS[kind].to_string())
 }

@@ -211,6 +211,7 @@ pub fn compare(inputs: u64, first: u64) -> bool {
         if twice {
             what = damage(&mut r, &mut world);
         }
+        // a second damage may mend the first, or change a length
         let wrong_run = KINDS.contains(&what.as_str()) && !twice;
         let mut call = some_call(&mut r, &world);
         if r.one_in(3) {
@@ -229,7 +230,10 @@ pub fn compare(inputs: u64, first: u64) -> bool {
         }
         match step(&mut second, &mut world, call, &mut seen) {
             Ok(answer) if wrong_run && answer.number != 2 && ![SET_UP_POOL, SET_UP_UNIT].contains(&call.kind) => {
-                println!("input of seed {seed} ({what}): both answer {}, and the tables are unsound", answer.number);
+                println!(
+                    "input of seed {seed} ({what}): both answer {}, and the tables are unsound\n  again: compare damaged 1 {seed}",
+                    answer.number
+                );
                 return false;
             }
             Ok(answer) => {
@@ -249,6 +253,12 @@ pub fn compare(inputs: u64, first: u64) -> bool {
         }
     }
     println!("damaged and foreign inputs: seeds {first} to {}, equal", first + inputs - 1);
+    let must = if inputs >= 10_000 { must_be_reached() } else { Vec::new() };
+    seen.report(&must)
+}
+
+/// What many damaged inputs must have reached.
+fn must_be_reached() -> Vec<String> {
     let mut must: Vec<String> = Vec::new();
     for what in ["word", "little", "swap", "scratch", "length"] {
         must.extend(BUFFERS.iter().map(|b| format!("{what}_{b}")).filter(|name| name != "length_unit"));
@@ -271,5 +281,5 @@ pub fn compare(inputs: u64, first: u64) -> bool {
     must.extend(["half_down", "half_up"].map(String::from));
     must.extend([0, 1, 2, 5, 6, 8, 10, 11, 14].map(|n| format!("preview_{n}")));
     must.extend(["preview_adds", "preview_same_ranges", "preview_several_blocks"].map(String::from));
-    seen.report(if inputs >= 10_000 { &must } else { &[] })
+    must
 }

@@ -37,7 +37,7 @@ pub fn pass_page(part: &[u32], b: Page, before: Carried) -> Carried
     Carried { length, word }
 }
 
-// The same of the last page of a stretch, which is passed at once: the running length rises by as many pages as are mapped.
+// What is carried after a stretch, which is passed at once: the running length rises by as many pages as are mapped.
 pub fn pass_stretch(part: &[u32], b: Page, before: Carried, along: Stretch) -> Carried
     requires { ⌜ length (now part) ≡ pagesInSpace ⌝ }
     requires { ⌜ b .0 ≤ pagesInSpace ⌝ }

@@ -168,10 +168,10 @@ zeros-all rs at r h e = record {
 pub record Checking (ws rs : List ℕ) (i n v at : ℕ) : Type 0 where
   pub walked : Walked ws rs i n v at
   pub settled : (q : ℕ) → q + n < i → getD ws q 0 ≡ bit-at ws q
-  pub running : (q : ℕ) → i ≤ q + n → q < i → getD ws q 0 ≡ bitWord (rangeBit v) (getD ws q 0)
+  pub unsettled : (q : ℕ) → i ≤ q + n → q < i → getD ws q 0 ≡ bitWord (rangeBit v) (getD ws q 0)
 
 pub check-start : (ws rs : List ℕ) → length ws ≡ 1024 → length rs ≡ 512 → Checking ws rs 0 0 0 0
-check-start ws rs e f = record { walked = walk-start ws rs e f; settled = λ q h. absurd (omega arith); running = λ q lo hi. absurd (omega arith) }
+check-start ws rs e f = record { walked = walk-start ws rs e f; settled = λ q h. absurd (omega arith); unsettled = λ q lo hi. absurd (omega arith) }
 
 module _ (ws rs : List ℕ) (i n v at : ℕ) (s : Checking ws rs i n v at) where
   step-left : (on : Bool) (w : ℕ) → i < 1024 → w ≡ getD ws i 0 → on ≡ joins v w → Left _ _ _ _ _ _ (s .walked) on
@@ -204,7 +204,7 @@ module _ (ws rs : List ℕ) (i n v at : ℕ) (s : Checking ws rs i n v at) where
   all-right : whole ws i ≡ runBefore ws i → EndFits rs false at i n v → (q : ℕ) → q < i → getD ws q 0 ≡ bit-at ws q
   all-right w f q lt =
       by-dec (decLt (q + n) i) (λ before. s .settled q before)
-      (λ in-run. s .running q (omega arith) lt ∙ ap (λ (b : Bool). bitWord b (getD ws q 0)) (f .bit refl) ∙ sym (bit-run _ _ _ _ _ _ (s .walked) w q lt (omega arith)))
+      (λ in-run. s .unsettled q (omega arith) lt ∙ ap (λ (b : Bool). bitWord b (getD ws q 0)) (f .bit refl) ∙ sym (bit-run _ _ _ _ _ _ (s .walked) w q lt (omega arith)))
 
   -- one page further
   pub check-step : (on : Bool) (w m at′ : ℕ) → i < 1024 → w ≡ getD ws i 0 → on ≡ joins v w → EndFits rs on at i n v → WordFits on v w → m ≡ goesOn n v w → at′ ≡ at + length (ended on i n v)
@@ -224,12 +224,12 @@ module _ (ws rs : List ℕ) (i n v at : ℕ) (s : Checking ws rs i n v at) where
             let z : mapped (getD ws i 0) ≡ false = ap mapped (sym e) ∙ goes-zero n v w (omega arith) in
             rw same (own ∙ bit-none (rangeBit w) (getD ws i 0) z ∙ sym (bit-none (leb 8 (whole ws (suc i))) (getD ws i 0) z)))
             (λ ne. all-right (stops-step _ _ _ _ _ _ (s .walked) w h e (sym o ∙ t)) (rw t at f) q (omega arith)));
-        running = λ q lo hi.
+        unsettled = λ q lo hi.
             by-dec (ℕ-discrete q i)
             (λ same. rw same own)
             (λ ne. by-test on
             (λ t.
-            s .running q (omega (arith, goes-join n v w (sym o ∙ t))) (omega arith)
+            s .unsettled q (omega (arith, goes-join n v w (sym o ∙ t))) (omega arith)
             ∙ ap (λ (b : Bool). bitWord b (getD ws q 0)) (sym (g .bit t (joins-at v w (sym o ∙ t) .next))))
             (λ t. absurd (omega (arith, goes-new n v w (sym o ∙ t), one-if-le (mapped w)))));
       }
@@ -239,10 +239,10 @@ module _ (ws rs : List ℕ) (i n v at : ℕ) (s : Checking ws rs i n v at) where
   check-onward k m o = record {
     walked = walk-onward ws rs i n v at k m (s .walked) o;
     settled = λ q lt. s .settled q (omega arith);
-    running = λ q lo hi.
+    unsettled = λ q lo hi.
         let a = ahead v k m (o .frames) in
         by-dec (decLt q i)
-        (λ before. s .running q (omega arith) before ∙ ap (λ (b : Bool). bitWord b (getD ws q 0)) (sym (a .bit)))
+        (λ before. s .unsettled q (omega arith) before ∙ ap (λ (b : Bool). bitWord b (getD ws q 0)) (sym (a .bit)))
         (λ here.
         let frames = o .frames in
         let w : getD ws q 0 ≡ v + (q - i + 1) = let e : i + (q - i) ≡ q = omega arith in rw e at (o .next (q - i) (omega arith)) in
@@ -340,7 +340,7 @@ check-empty ws rs i at k s e = record {
       (λ here.
       let z : getD ws q 0 ≡ 0 = e .zero q (omega arith) (omega arith) in
       z ∙ sym (bit-none _ (getD ws q 0) (zero-unmapped _ z)));
-  running = λ q lo hi. absurd (omega arith);
+  unsettled = λ q lo hi. absurd (omega arith);
 }
 
 -- whatever is carried at page i is the same number and word

@@ -97,7 +97,7 @@ pub record Renewing (ws xs rs : List ℕ) (i n v at : ℕ) : Type 0 where
   pub room : length xs ≡ 1024
   -- the pages before the run are settled, those of the run and those to come are as they were
   pub settled : (q : ℕ) → q + n < i → getD xs q 0 ≡ bit-at ws q
-  pub running : (q : ℕ) → i ≤ q + n → q < i → getD xs q 0 ≡ getD ws q 0
+  pub unsettled : (q : ℕ) → i ≤ q + n → q < i → getD xs q 0 ≡ getD ws q 0
   pub waiting : (q : ℕ) → i ≤ q → getD xs q 0 ≡ getD ws q 0
 
 pub renew-start : (ws rs : List ℕ) → length ws ≡ 1024 → length rs ≡ 512 → Renewing ws ws rs 0 0 0 0
@@ -105,7 +105,7 @@ renew-start ws rs e f = record {
   walked = walk-start ws rs e f;
   room = e;
   settled = λ q h. absurd (omega arith);
-  running = λ q lo hi. absurd (omega arith);
+  unsettled = λ q lo hi. absurd (omega arith);
   waiting = λ q h. refl;
 }
 
@@ -123,7 +123,7 @@ module _ (ws xs rs : List ℕ) (i n v at : ℕ) (s : Renewing ws xs rs i n v at)
       by-dec (decLt (q + n) i)
       (λ before. m .below q (omega arith) ∙ s .settled q before)
       (λ in-run.
-      m .inside q (omega arith) (omega arith) ∙ ap (bitWord (leb 8 n)) (s .running q (omega arith) lt) ∙ sym (bit-run _ _ _ _ _ _ (s .walked) w q lt (omega arith)))
+      m .inside q (omega arith) (omega arith) ∙ ap (bitWord (leb 8 n)) (s .unsettled q (omega arith) lt) ∙ sym (bit-run _ _ _ _ _ _ (s .walked) w q lt (omega arith)))
 
   -- the entries written so far
   taken : (rs′ es : List ℕ) (at′ : ℕ) → at + length es ≤ 512 → at′ ≡ at + length es → rs′ ≡ sets rs at es → take at′ rs′ ≡ take at rs ++ es
@@ -162,11 +162,11 @@ module _ (ws xs rs : List ℕ) (i n v at : ℕ) (s : Renewing ws xs rs i n v at)
             let z : mapped w ≡ false = goes-zero n v w (omega arith) in
             rw same (word ∙ bit-none (rangeBit w) w z ∙ sym (bit-none (leb 8 (whole ws (suc i))) (getD ws i 0) (ap mapped (sym here) ∙ z))))
             (λ ne. other q ne ∙ all-settled xs′ end u q (omega arith)));
-        running = by-test on
+        unsettled = by-test on
             (λ t q lo hi.
             let k = goes-join n v w (sym o ∙ t) in
             let u : Marked (leb 8 n) xs (i - n) 0 xs′ = rw (t, markedPages) at (r .pages) in
-            by-dec (ℕ-discrete q i) (λ same. rw same (stays (joins-at v w (sym o ∙ t) .next))) (λ ne. other q ne ∙ none-marked (leb 8 n) xs xs′ (i - n) u q ∙ s .running q (omega arith) (omega arith)))
+            by-dec (ℕ-discrete q i) (λ same. rw same (stays (joins-at v w (sym o ∙ t) .next))) (λ ne. other q ne ∙ none-marked (leb 8 n) xs xs′ (i - n) u q ∙ s .unsettled q (omega arith) (omega arith)))
             (λ t q lo hi.
             let k = goes-new n v w (sym o ∙ t) in
             by-dec (ℕ-discrete q i)
@@ -182,7 +182,7 @@ module _ (ws xs rs : List ℕ) (i n v at : ℕ) (s : Renewing ws xs rs i n v at)
         walked = walk-onward ws rs i n v at k m (s .walked) (record { room = o .room; frames = o .frames; next = λ j h. sym (s .waiting (i + j) (omega arith)) ∙ o .next j h });
         room = s .room;
         settled = λ q lt. s .settled q (omega arith);
-        running = λ q lo hi. by-dec (decLt q i) (λ before. s .running q (omega arith) before) (λ here. s .waiting q (omega arith));
+        unsettled = λ q lo hi. by-dec (decLt q i) (λ before. s .unsettled q (omega arith) before) (λ here. s .waiting q (omega arith));
         waiting = λ q le. s .waiting q (omega arith);
       }
 
@@ -211,7 +211,7 @@ renew-empty ws xs rs i at k s e =
           (λ here.
           let z : getD ws q 0 ≡ 0 = none q (omega arith) (omega arith) in
           e .zero q (omega arith) (omega arith) ∙ sym (bit-none _ (getD ws q 0) (zero-unmapped _ z)));
-      running = λ q lo hi. absurd (omega arith);
+      unsettled = λ q lo hi. absurd (omega arith);
       waiting = λ q le. s .waiting q (omega arith);
     }
 

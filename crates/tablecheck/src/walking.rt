@@ -144,7 +144,7 @@ fn walk_space(
     while i < PAGES {
         let here = pass_page(part, Page(i), carried);
         let w = here.word;
-        // The run before page i goes on there, or ends (law `running-joins`).
+        // Whether the run before page i goes on there (law `running-joins`); if not, it has ended.
         let on = 1 < here.length;
         if !step_fits(ranges, on, at, Page(i), carried.length, carried.word, w) {
             return unsound();
