@@ -175,8 +175,9 @@ impl<W: Write> Maker<'_, W> {
         self.random.pick(&busy)
     }
 
+    /// Rights that are allowed.
     fn rights(&mut self) -> u16 {
-        self.random.pick(&[0, 1, 2, 3, 3, 3, 4, 5, 6, 7, 7])
+        self.random.pick(&[0, 1, 3, 3, 3, 4, 5, 7, 7])
     }
 
     fn access(&mut self) -> u16 {
@@ -280,6 +281,13 @@ impl<W: Write> Maker<'_, W> {
         }
     }
 
+    /// Asks for reserved rights, once in a while.
+    fn reserve(&mut self, rights: &mut u16) {
+        if self.random.one_in(30) {
+            *rights = self.random.pick(&[2, 6]);
+        }
+    }
+
     // Single calls.
 
     fn set_up(&mut self, sizes: &[u16]) -> Step<bool> {
@@ -333,6 +341,7 @@ impl<W: Write> Maker<'_, W> {
             _ => self.rights(),
         };
         let mut args = [space, first, count, rights];
+        self.reserve(&mut args[3]);
         self.spoil(&mut args);
         self.call(MAP, &args)
     }
@@ -355,6 +364,7 @@ impl<W: Write> Maker<'_, W> {
             _ => self.any_part(),
         };
         let mut args = [space, first, count, self.rights()];
+        self.reserve(&mut args[3]);
         self.spoil(&mut args);
         self.call(PROTECT, &args)
     }

@@ -25,6 +25,11 @@ pub fn nearest(inside: u32, mapped: u32) -> u32 {
         .unwrap()
 }
 
+/// Whether rights are allowed, one by one: none, r, rw, x, rx, rwx.
+pub fn allowed(rights: u32) -> bool {
+    [0, 1, 3, 4, 5, 7].contains(&rights)
+}
+
 /// Longest runs of at least 8 pages in a space, counted by their definition from
 /// the page words alone, range bits aside.
 pub fn long_runs(pages: &[u32]) -> u32 {
@@ -246,7 +251,7 @@ impl Plain {
                 return None;
             }
             let (frame, rights) = (word % 4096, word / 4096 % 8);
-            if frame >= plain.size || !frames.insert(frame) {
+            if !allowed(rights) || frame >= plain.size || !frames.insert(frame) {
                 return None;
             }
             plain.held.insert((space, page), (frame, rights));
@@ -255,12 +260,13 @@ impl Plain {
     }
 }
 
-/// The refusals of a record's call that do not take a look at the unit; the
-/// lowest is the answer.
-pub fn refusals(plain: &Plain, call: &Call) -> BTreeSet<u32> {
+/// The refusals of a record's call that do not take a look at the unit, in the
+/// order in which they are judged: 17 stands between 6 and 7. The first is the
+/// answer.
+pub fn refusals(plain: &Plain, call: &Call) -> Vec<u32> {
     let [a0, a1, a2, a3] = call.args.map(u32::from);
     if call.kind == TRANSLATE && a0 > 1 {
-        return [16].into();
+        return vec![16];
     }
     if call.kind == SETUP {
         let wrong = a0 == 0 || a0 > 4096;
@@ -268,6 +274,7 @@ pub fn refusals(plain: &Plain, call: &Call) -> BTreeSet<u32> {
     }
     let translates = call.kind == TRANSLATE;
     let spans = [MAP, UNMAP, PROTECT].contains(&call.kind);
+    let gives_rights = [MAP, PROTECT].contains(&call.kind);
     let space = if translates { a1 } else { a0 };
     let held = |page: u32| plain.held.contains_key(&(space, page));
     let open = plain.open.contains(&space);
@@ -280,7 +287,8 @@ pub fn refusals(plain: &Plain, call: &Call) -> BTreeSet<u32> {
     let all = [
         (2, plain.size == 0),
         (5, space > 3),
-        (6, [MAP, PROTECT].contains(&call.kind) && a3 > 7),
+        (6, gives_rights && a3 > 7),
+        (17, gives_rights && [2, 6].contains(&a3)),
         (7, translates && ![1, 2, 4].contains(&a3)),
         (8, spans && (a2 == 0 || a1 + a2 > 1024)),
         (8, translates && a2 > 1023),
@@ -403,7 +411,7 @@ pub fn unit_kept(unit: &Unit) -> bool {
                 e.space < 4
                     && e.page < 1024
                     && e.frame < 4096
-                    && e.rights < 8
+                    && allowed(e.rights)
                     && e.page % 64 == i as u32
             }
             _ => false,
@@ -418,7 +426,7 @@ pub fn unit_kept(unit: &Unit) -> bool {
             0 => rest == [0; 5],
             1 => {
                 e.space < 4
-                    && e.rights < 8
+                    && allowed(e.rights)
                     && e.base < e.limit
                     && e.limit <= 1024
                     && (e.base..e.limit).all(|p| (p as u64 + e.offset as u64) % (1 << 32) < 4096)

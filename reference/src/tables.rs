@@ -83,8 +83,9 @@ fn space_sound(b: &Buffers, space: u32) -> Option<u32> {
     let mut used = 0;
     let mut from = 0;
     while let Some((base, limit)) = next_run(pages, from) {
+        // All words of a run have the rights of its first.
         let word = pages[base];
-        if word >> 16 != 1 || !b.is_open(space) {
+        if word >> 16 != 1 || !rights_allowed(rights_of(word)) || !b.is_open(space) {
             return None;
         }
         let length = limit - base;
@@ -140,11 +141,13 @@ fn space_known(space: u32) -> Result<(), u32> {
     Ok(())
 }
 
-fn rights_known(rights: u32) -> Result<(), u32> {
-    if rights > 7 {
-        return Err(6);
+/// Refusals 6 and 17. Both are judged before 8, so 17 is out of the order of the
+/// numbers.
+fn rights_given(rights: u32) -> Result<(), u32> {
+    if rights_allowed(rights) {
+        return Ok(());
     }
-    Ok(())
+    Err(if rights > 7 { 6 } else { 17 })
 }
 
 fn span_inside(first: u32, count: u32) -> Result<(), u32> {
@@ -236,7 +239,7 @@ pub fn close(b: &mut Buffers, space: u32) -> Outcome {
 pub fn map(b: &mut Buffers, space: u32, first: u32, count: u32, rights: u32) -> Outcome {
     let facts = judge(b)?;
     space_known(space)?;
-    rights_known(rights)?;
+    rights_given(rights)?;
     span_inside(first, count)?;
     space_open(b, space)?;
     let span = &b.space_pages(space)[first as usize..][..count as usize];
@@ -307,7 +310,7 @@ pub fn unmap(b: &mut Buffers, space: u32, first: u32, count: u32) -> Outcome {
 pub fn protect(b: &mut Buffers, space: u32, first: u32, count: u32, rights: u32) -> Outcome {
     judge(b)?;
     space_known(space)?;
-    rights_known(rights)?;
+    rights_given(rights)?;
     span_inside(first, count)?;
     space_open(b, space)?;
     span_mapped(b, space, first, count)?;

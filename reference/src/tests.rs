@@ -1,5 +1,5 @@
 use crate::gen::{generate, Random, Style};
-use crate::plain::{long_runs, nearest, refusals, unit_kept, Plain, PlainUnit};
+use crate::plain::{allowed, long_runs, nearest, refusals, unit_kept, Plain, PlainUnit};
 use crate::state;
 use crate::tables::{self, figure, judge};
 use crate::text;
@@ -527,7 +527,8 @@ fn some_span(random: &mut Random, b: &Buffers) -> [u32; 4] {
     };
     let mut args = [space, first as u32, count, rights_of(pages[first - 1])];
     if random.one_in(6) {
-        args[random.below(4) as usize] = random.pick(&[0, 3, 4, 7, 8, 1023, 1024, u32::MAX]);
+        let odd = [0, 2, 3, 4, 6, 7, 8, 1023, 1024, u32::MAX];
+        args[random.below(4) as usize] = random.pick(&odd);
     }
     args
 }
@@ -554,7 +555,7 @@ fn part_taken_out(random: &mut Random, b: &mut Buffers) -> Option<[u32; 4]> {
 fn preview_is_map_on_a_copy() {
     let rules = Rules::default();
     let mut random = Random(71);
-    let mut numbers = [0; 17];
+    let mut numbers = [0; ANSWERS];
     // Fewer ranges afterwards, as many, more; more blocks than ranges.
     let mut cases = [0; 4];
     let mut core = Core::new(rules);
@@ -588,11 +589,301 @@ fn preview_is_map_on_a_copy() {
             cases[3] += (blocks > ranges) as u32;
         }
     }
-    for number in [0, 1, 2, 5, 6, 8, 10, 11, 14] {
+    for number in [0, 1, 2, 5, 6, 8, 10, 11, 14, 17] {
         assert!(numbers[number] > 0, "no {number}: {numbers:?}");
     }
-    assert_eq!(numbers.iter().filter(|&&n| n > 0).count(), 9, "{numbers:?}");
+    assert_eq!(
+        numbers.iter().filter(|&&n| n > 0).count(),
+        10,
+        "{numbers:?}"
+    );
     assert!(cases.iter().all(|&n| n > 0), "{cases:?}");
+}
+
+// Write without read is reserved (document 02, change 4).
+
+const ALLOWED: [u32; 6] = [0, 1, 3, 4, 5, 7];
+const RESERVED: [u32; 2] = [2, 6];
+/// Above 7; the last three bits of some are reserved rights.
+const TOO_GREAT: [u32; 6] = [8, 10, 14, 65530, 65534, u32::MAX - 1];
+
+/// The answer of a call by its number, with the core's first unit; a refused one
+/// leaves everything as it was.
+fn answer_of(core: &Core, command: u32, args: [u32; 4]) -> u32 {
+    let (mut b, mut unit) = (core.buffers.clone(), core.units[0]);
+    let outcome = state::perform(command, &mut b, &mut unit, args, &Rules::default()).unwrap();
+    if outcome.is_err() {
+        let same = b == core.buffers && unit == core.units[0];
+        assert!(same, "{command} {args:?}");
+    }
+    numbers(outcome)[0]
+}
+
+#[test]
+fn rights_one_by_one() {
+    for rights in (0..300).chain(TOO_GREAT).chain([u32::MAX]) {
+        assert_eq!(rights_allowed(rights), ALLOWED.contains(&rights));
+        assert_eq!(allowed(rights), ALLOWED.contains(&rights));
+    }
+}
+
+#[test]
+fn reserved_rights_are_refused() {
+    let asked = |call: &str, rights: u32| {
+        last_made(&format!("setup 16\nopen 0\nmap 0 0 4 5\n{call} {rights}"))
+    };
+    for rights in RESERVED {
+        assert_eq!(asked("map 0 8 2", rights), "map 17 0 0");
+        assert_eq!(asked("protect 0 0 2", rights), "protect 17 0 0");
+        assert_eq!(asked("preview 0 8 2", rights), "preview 17 0 0");
+    }
+    for rights in [8, 9, 10, 14, 65530, 65534, 65535] {
+        assert_eq!(asked("map 0 8 2", rights), "map 6 0 0");
+        assert_eq!(asked("protect 0 0 2", rights), "protect 6 0 0");
+        assert_eq!(asked("preview 0 8 2", rights), "preview 6 0 0");
+    }
+    for rights in ALLOWED {
+        assert_eq!(asked("map 0 8 2", rights), "map 0 1 0");
+        assert_eq!(asked("preview 0 8 2", rights), "preview 0 1 0");
+        let changed = if rights == 5 { 0 } else { 2 };
+        let expected = format!("protect 0 {changed} 0");
+        assert_eq!(asked("protect 0 0 2", rights), expected);
+    }
+}
+
+#[test]
+fn seventeen_in_order() {
+    // 12 frames are free, spaces 2 and 3 closed.
+    let core = core_after("setup 16\nopen 0\nopen 1\nmap 0 0 4 5\n");
+    // A span for map and for preview, or one for protect, and its own refusal.
+    let maps = [
+        ([0, 8, 0], 8),
+        ([0, 1023, 2], 8),
+        ([3, u32::MAX, u32::MAX], 8),
+        ([2, 8, 1], 10),
+        ([0, 3, 1], 11),
+        ([0, 3, 100], 11),
+        ([0, 8, 13], 14),
+    ];
+    let protects = [
+        ([0, 0, 0], 8),
+        ([0, 1020, 5], 8),
+        ([2, 0, 1], 10),
+        ([0, 3, 2], 12),
+        ([1, 0, 1], 12),
+    ];
+    let asked = [(4, &maps[..]), (10, &maps[..]), (6, &protects[..])];
+    for (command, spans) in asked {
+        for &([space, first, count], refusal) in spans {
+            let answer = |space, rights| answer_of(&core, command, [space, first, count, rights]);
+            for rights in ALLOWED {
+                assert_eq!(answer(space, rights), refusal, "{command} {rights}");
+                assert_eq!(answer(4, rights), 5);
+            }
+            for rights in RESERVED {
+                assert_eq!(answer(space, rights), 17, "{command} {refusal}");
+                assert_eq!(answer(4, rights), 5);
+                assert_eq!(answer(u32::MAX, rights), 5);
+            }
+            for rights in TOO_GREAT {
+                assert_eq!(answer(space, rights), 6, "{command} {refusal}");
+                assert_eq!(answer(4, rights), 5);
+            }
+        }
+    }
+
+    // No record can be appended any more.
+    let mut full = core_after(&slept(64));
+    full.buffers.control[1] = u32::MAX;
+    for rights in ALLOWED {
+        assert_eq!(answer_of(&full, 6, [0, 100, 1, rights]), 15);
+    }
+    for rights in RESERVED {
+        assert_eq!(answer_of(&full, 6, [0, 100, 1, rights]), 17);
+    }
+
+    // Unsound tables come first, wrong lengths before them.
+    let mut unsound = core_after("setup 16\nopen 0\nmap 0 0 4 5\n");
+    unsound.buffers.pages[9] = 7;
+    for command in [4, 6, 10] {
+        assert_eq!(answer_of(&unsound, command, [0, 0, 4, 2]), 2);
+        assert_eq!(answer_of(&unsound, command, [0, 0, 4, 6]), 2);
+    }
+    unsound.buffers.ranges.pop();
+    for command in [4, 6, 10] {
+        assert_eq!(answer_of(&unsound, command, [0, 0, 4, 2]), 1);
+        assert_eq!(answer_of(&unsound, command, [0, 0, 4, 6]), 1);
+    }
+}
+
+#[test]
+fn allowed_rights_are_held() {
+    for rights in ALLOWED {
+        let lines = format!("setup 32\nopen 0\nmap 0 0 8 {rights}\nmap 0 20 1 {rights}\n");
+        let b = core_after(&lines).buffers;
+        assert_eq!(b.page(0, 0), 65536 + 32768 + 4096 * rights);
+        assert_eq!(b.page(0, 20), 65536 + 4096 * rights + 8);
+        assert_eq!(b.space_ranges(0)[..8], [0, 8, 0, rights, 0, 0, 0, 0]);
+        for before in ALLOWED {
+            let lines = format!(
+                "setup 32\nopen 0\nmap 0 0 8 {before}\nmap 0 20 1 {before}
+                protect 0 0 8 {rights}\nprotect 0 20 1 {rights}\n"
+            );
+            let protected = core_after(&lines).buffers;
+            assert_eq!(protected.pages, b.pages);
+            assert_eq!(protected.ranges, b.ranges);
+        }
+        // Write is asked for by itself, as read and execute are: by page word,
+        // range entry, page entry, and by the word of a page in no range.
+        for access in [1, 2, 4] {
+            let asked = [0, 1, 0, 20].map(|page| format!("translate 0 0 {page} {access}"));
+            let found = answers(&format!("{lines}{}", asked.join("\n")));
+            let expected = match rights & access != 0 {
+                true => ["7 0 0 3", "7 0 1 2", "7 0 0 1", "7 0 8 3"],
+                false => ["7 13 0 0"; 4],
+            };
+            assert_eq!(found[4..], expected, "{rights} {access}");
+        }
+        for access in [0, 3, 5, 6, 7, 8] {
+            let asked = last_answer(&format!("{lines}translate 0 0 0 {access}"));
+            assert_eq!(asked, "7 7 0 0");
+        }
+    }
+}
+
+/// Spans of 16, 5 and 8 pages; the first and the last are ranges.
+const THREE_SPANS: &str = "
+    setup 64
+    open 0
+    open 2
+    map 0 1 16 3
+    map 0 100 5 1
+    map 2 1016 8 7
+";
+
+#[test]
+fn reserved_rights_are_unsound() {
+    let plain = Plain::read(&core_after(THREE_SPANS).buffers).unwrap();
+    let sound = plain.words();
+    assert!(judge(&sound).is_ok());
+
+    // Pages that get other rights, with range bits and entries to match: whole
+    // ranges, half of one, single pages of one, and pages in no range.
+    let spans = [
+        (0, 1, 16),
+        (2, 1016, 8),
+        (0, 9, 8),
+        (0, 1, 1),
+        (0, 16, 1),
+        (0, 100, 5),
+        (0, 102, 1),
+    ];
+    for (space, first, count) in spans {
+        for rights in 0..8 {
+            let mut given = plain.clone();
+            given.protect(space, first, count, rights);
+            let b = given.words();
+            // A page that keeps its rights stays in its range.
+            if !allowed(rights) {
+                assert_eq!(in_range(b.page(space, first)), count >= 8);
+            }
+            let refusal = (!allowed(rights)).then_some(2);
+            assert_eq!(judge(&b).err(), refusal, "{space} {first} {count} {rights}");
+            assert_eq!(Plain::read(&b).is_none(), !allowed(rights));
+        }
+    }
+
+    let unsound = |alter: &dyn Fn(&mut Buffers)| {
+        let mut b = sound.clone();
+        alter(&mut b);
+        assert!(Plain::read(&b).is_none());
+        judge(&b).err() == Some(2)
+    };
+    let given = |word: u32, rights: u32| word & !(7 << 12) | rights << 12;
+    for rights in RESERVED {
+        // One word alone, with a range bit and without.
+        for page in [1, 5, 16, 100, 104, 2 * SPAN + 1023] {
+            assert!(unsound(&|b| b.pages[page] = given(b.pages[page], rights)));
+        }
+        // All pages of a range but not its entry, and the entry but no page.
+        assert!(unsound(&|b| b.pages[1..17]
+            .iter_mut()
+            .for_each(|w| *w = given(*w, rights))));
+        for entry in [0, 2 * TABLE] {
+            assert!(unsound(&|b| b.ranges[entry + 3] = rights));
+        }
+    }
+}
+
+#[test]
+fn a_pool_that_holds_reserved_rights_stays_refused() {
+    // Each is accepted where the page has other rights.
+    let calls = [
+        (2, [1, 0, 0, 0]),
+        (3, [0, 0, 0, 0]),
+        (3, [2, 0, 0, 0]),
+        (4, [0, 200, 1, 3]),
+        (5, [0, 102, 1, 0]),
+        (6, [0, 102, 1, 1]),
+        (7, [0, 1, 1, 0]),
+        (8, [0, 0, 0, 0]),
+        (10, [0, 200, 1, 3]),
+    ];
+    for rights in 0..8 {
+        let mut plain = Plain::read(&core_after(THREE_SPANS).buffers).unwrap();
+        plain.protect(0, 102, 1, rights);
+        let mut core = Core::new(Rules::default());
+        core.buffers = plain.words();
+        let expected = if allowed(rights) { 0 } else { 2 };
+        for (command, args) in calls {
+            assert_eq!(answer_of(&core, command, args), expected, "{command}");
+        }
+        // Set-up looks at no words.
+        assert_eq!(tables::set_up_pool(&mut core.buffers, 64), Ok((0, 0)));
+        assert_eq!(core.buffers, core_after("setup 64").buffers);
+    }
+}
+
+#[test]
+fn reserved_rights_make_a_unit_malformed() {
+    for removals in [0, 1, 64, 65] {
+        // Page 5 is in both entries of the unit, and records drop them; a unit is
+        // judged before it catches up.
+        let lines = String::from("setup 64\nopen 0\nmap 0 0 16 3\nmap 0 40 1 1\n");
+        let lines = lines + "translate 0 0 5 1\n" + &"protect 0 5 1 1\n".repeat(removals);
+        let core = core_after(&lines);
+        let ask = |unit: &mut Unit, args: [u32; 3]| {
+            let [space, page, access] = args;
+            unit::translate(&core.buffers, unit, space, page, access, &Rules::default())
+        };
+        for rights in (0..10).chain(TOO_GREAT) {
+            for (page, range) in [(true, false), (false, true), (true, true)] {
+                let mut unit = core.units[0];
+                if page {
+                    unit.pages[5].rights = rights;
+                }
+                if range {
+                    unit.ranges[0].rights = rights;
+                }
+                assert_eq!(unit.sound(), allowed(rights), "{rights}");
+                assert_eq!(unit_kept(&unit), allowed(rights), "{rights}");
+                let lent = unit;
+                // Of a page that neither entry has.
+                let found = ask(&mut unit, [0, 40, 1]);
+                if allowed(rights) {
+                    assert_eq!(found, Ok((16, 3)));
+                } else {
+                    assert_eq!(found, Err(2));
+                    assert_eq!(ask(&mut unit, [9, 2000, 9]), Err(2));
+                    assert_eq!(unit, lent);
+                    unit.seen = removals as u32 + 1;
+                    assert_eq!(ask(&mut unit, [0, 40, 1]), Err(2));
+                }
+                assert_eq!(unit::set_up_unit(&mut unit), Ok((0, 0)));
+                assert_eq!(unit, Unit::fresh());
+            }
+        }
+    }
 }
 
 // The record file.
@@ -656,6 +947,11 @@ fn text_both_ways() {
     let lines = "setup 32\nopen 0\nclose 1\nmap 0 4 11 3\nunmap 0 6 1\nprotect 0 4 2 1
 translate 7 0 6 1\ncoverage 65535\nraw 0000\nraw 0100ff\nraw 04000100\n";
     assert_eq!(decoded(&encoded(lines)), lines);
+    // Rights are numbers like others, whether a call takes them or not.
+    for rights in [2, 6, 8, 65535] {
+        let lines = format!("map 0 4 11 {rights}\nprotect 0 4 2 {rights}\n");
+        assert_eq!(decoded(&encoded(&lines)), lines);
+    }
     let encode_error = |lines: &str| {
         let result = text::encode(lines.as_bytes(), &mut Vec::new());
         result.unwrap_err().to_string()
@@ -732,13 +1028,13 @@ fn generator_is_determined() {
     assert_eq!(hash(&all), PINNED);
 }
 
-const PINNED: u64 = 10514165080928902218;
+const PINNED: u64 = 11098682606867667936;
 
 #[test]
 fn mixed_reaches_everything() {
     for seed in 0..6 {
         let s = counted(&generated(seed, 3000, Style::Mixed));
-        for answer in [0, 2, 4, 5, 6, 7, 8, 9, 10, 11, 12, 13, 14, 16] {
+        for answer in [0, 2, 4, 5, 6, 7, 8, 9, 10, 11, 12, 13, 14, 16, 17] {
             assert!(s.answered(answer) > 0, "seed {seed}: no answer {answer}");
         }
         // No record file reaches these in a life.
@@ -752,6 +1048,37 @@ fn mixed_reaches_everything() {
 }
 
 #[test]
+fn mixed_asks_for_reserved_rights() {
+    for seed in 0..6 {
+        let bytes = generated(seed, 3000, Style::Mixed);
+        // By map and by protect: with rights 2, with 6, and with any.
+        let mut asked = [[0u64; 3]; 2];
+        let mut pieces = Pieces::new(&bytes[..]);
+        while let Some(piece) = pieces.next().unwrap() {
+            let Piece::Whole(bytes) = piece else { break };
+            let (row, rights) = match Call::read(&bytes[2..]) {
+                Some(call) if call.kind == MAP => (0, call.args[3]),
+                Some(call) if call.kind == PROTECT => (1, call.args[3]),
+                _ => continue,
+            };
+            asked[row][0] += (rights == 2) as u64;
+            asked[row][1] += (rights == 6) as u64;
+            asked[row][2] += 1;
+        }
+        assert!(asked.iter().flatten().all(|&n| n > 0), "seed {seed}");
+        let reserved: u64 = asked.iter().map(|row| row[0] + row[1]).sum();
+        let all: u64 = asked.iter().map(|row| row[2]).sum();
+        assert!(
+            (15..=50).contains(&(all / reserved)),
+            "seed {seed}: {asked:?}"
+        );
+        let s = counted(&bytes);
+        assert!(s.answers[MAP as usize][17] > 0 && s.answers[PROTECT as usize][17] > 0);
+        assert!(s.answered(17) <= reserved);
+    }
+}
+
+#[test]
 fn sleep_reaches_its_lengths() {
     for seed in 0..6 {
         let s = counted(&generated(seed, 3000, Style::Sleep));
@@ -760,6 +1087,8 @@ fn sleep_reaches_its_lengths() {
         }
         assert!(s.behind.iter().map(|row| row[1]).sum::<u64>() > 0);
         assert!(s.ways[1..].iter().all(|&n| n > 20));
+        // Its records are counted out, so no call is spent on reserved rights.
+        assert_eq!(s.answered(17), 0);
     }
 }
 
@@ -876,9 +1205,9 @@ fn compare(bytes: &[u8], every: usize) {
         if let Some(tried) = tried {
             assert_eq!(tried, with_ranges(outcome, &core.buffers, args[0]));
         }
-        let lowest = refusals(&plain, &call).first().copied();
-        if lowest.is_some() || call.kind != TRANSLATE {
-            assert_eq!(outcome.err(), lowest, "{call:?}");
+        let refusal = refusals(&plain, &call).first().copied();
+        if refusal.is_some() || call.kind != TRANSLATE {
+            assert_eq!(outcome.err(), refusal, "{call:?}");
         } else {
             let unit = &mut units[args[0] as usize];
             assert_eq!(outcome, unit.translate(&plain, args[1], args[2], args[3]));
@@ -917,6 +1246,9 @@ fn compare(bytes: &[u8], every: usize) {
         assert!(second == 0 || call.kind == TRANSLATE);
         if n % every == 0 {
             assert!(core.buffers == plain.words(), "{call:?}");
+            // No page is ever held with reserved rights, by no unit either.
+            assert!(plain.held.values().all(|h| allowed(h.1)), "{call:?}");
+            assert!(core.units.iter().all(unit_kept), "{call:?}");
         }
     }
 }
@@ -975,6 +1307,18 @@ fn disturb(random: &mut Random, word: &mut u32) {
     };
 }
 
+/// Gives some held pages any rights up to 7, with range bits and entries to match.
+fn give_any_rights(random: &mut Random, b: &mut Buffers) {
+    let mut plain = Plain::read(b).unwrap();
+    let from = random.below(plain.held.len() as u64) as usize;
+    let count = random.among(1, 30) as usize;
+    let rights = random.below(8) as u32;
+    for held in plain.held.values_mut().skip(from).take(count) {
+        held.1 = rights;
+    }
+    *b = plain.words();
+}
+
 #[test]
 fn soundness_is_exact() {
     let mut random = Random(99);
@@ -986,7 +1330,11 @@ fn soundness_is_exact() {
         }
         let mut b = core.buffers.clone();
         assert!(judge(&b).is_ok());
-        for _ in 0..random.among(1, 2) {
+        let given = random.one_in(4);
+        if given {
+            give_any_rights(&mut random, &mut b);
+        }
+        for _ in 0..random.among(!given as u16, 2) {
             let buffer = match random.below(4) {
                 0 => &mut b.control,
                 1 => &mut b.frames,
@@ -1147,12 +1495,12 @@ fn unit_refusals() {
     let mut unit = Unit::fresh();
     unit.seen = 3;
     unit.ranges[3] = entry(20, 1);
-    unit.ranges[4] = entry(10, 2);
+    unit.ranges[4] = entry(10, 3);
     unit.ranges[5] = entry(20, 4);
     unit.last = 5;
     assert_eq!(ask(&mut unit.clone(), [0, 20, 4]), Ok((420, 2)));
     assert_eq!(ask(&mut unit.clone(), [0, 20, 1]), Err(13));
-    assert_eq!(ask(&mut unit, [0, 10, 2]), Ok((210, 2)));
+    assert_eq!(ask(&mut unit, [0, 10, 2]), Ok((310, 2)));
     assert_eq!(unit.last, 4);
     unit.last = 32;
     assert_eq!(ask(&mut unit, [0, 30, 1]), Ok((130, 2)));
@@ -1192,7 +1540,7 @@ fn the_log_ends() {
 #[test]
 fn refusals_leave_all_as_it_was() {
     let mut random = Random(41);
-    let mut numbers = [0; 17];
+    let mut numbers = [0; ANSWERS];
     let mut core = Core::new(Rules::default());
     for round in 0..1500u64 {
         if round % 60 == 0 {
@@ -1228,7 +1576,7 @@ fn refusals_leave_all_as_it_was() {
             Ok(_) => assert!(Plain::read(&b).is_some()),
         }
     }
-    for number in [2, 3, 5, 8, 10, 12] {
+    for number in [2, 3, 5, 8, 10, 12, 17] {
         assert!(numbers[number] > 0, "{numbers:?}");
     }
 }

@@ -244,12 +244,15 @@ pub fn half(inside: u32, mapped: u32) -> Option<Half> {
     }
 }
 
+/// Answers that a call or a record can have: 0 to 17.
+pub const ANSWERS: usize = 18;
+
 /// Counts over a run.
 #[derive(Default, Debug)]
 pub struct Stats {
     pub records: u64,
     /// By kind (9 = any other) and answer.
-    pub answers: [[u64; 17]; 10],
+    pub answers: [[u64; ANSWERS]; 10],
     pub ways: [u64; 4],
     /// Translations that found their unit so many records behind: [63, 64, 65]
     /// by [accepted, refused].
@@ -341,7 +344,7 @@ impl Stats {
 
     pub fn print<W: Write>(&self, output: &mut W) -> io::Result<()> {
         writeln!(output, "records {}", self.records)?;
-        for answer in 0..17 {
+        for answer in 0..ANSWERS {
             writeln!(output, "answer_{answer} {}", self.answered(answer))?;
         }
         for (kind, row) in self.answers.iter().enumerate() {

@@ -92,7 +92,7 @@ impl PageEntry {
             && self.space <= 3
             && self.page <= 1023
             && self.frame < 4096
-            && self.rights <= 7
+            && rights_allowed(self.rights)
             && self.page as usize % PAGE_ENTRIES == place
     }
 }
@@ -104,7 +104,7 @@ impl RangeEntry {
         }
         if self.valid != 1
             || self.space > 3
-            || self.rights > 7
+            || !rights_allowed(self.rights)
             || self.limit > 1024
             || self.base >= self.limit
         {

@@ -149,6 +149,12 @@ pub fn rights_of(page_word: u32) -> u32 {
     page_word >> 12 & 7
 }
 
+/// Whether rights may be given and held: read 1, write 2 and execute 4 added, but
+/// write only with read, since the processor reserves 2 and 6.
+pub fn rights_allowed(rights: u32) -> bool {
+    rights <= 7 && rights & 3 != 2
+}
+
 pub fn in_range(page_word: u32) -> bool {
     page_word & IN_RANGE != 0
 }

@@ -76,6 +76,32 @@ protect 0 29 2 1\ncoverage 0\ncoverage 0\n";
 }
 
 #[test]
+fn reserved_rights_in_a_text() {
+    let calls = "setup 32\nopen 0\nmap 0 4 11 2\nmap 0 4 11 6\nmap 0 4 11 8
+map 0 4 11 3\nprotect 0 4 11 6\nprotect 0 4 11 7\n";
+    let records = good(&["encode"], calls.as_bytes());
+    assert_eq!(good(&["decode"], &records), calls.as_bytes());
+    let listing = String::from_utf8(good(&["run"], &records)).unwrap();
+    let expected = "record kind answer first second
+1 1 0 0 0
+2 2 0 0 0
+3 4 17 0 0
+4 4 17 0 0
+5 4 6 0 0
+6 4 0 3 0
+7 6 17 0 0
+8 6 0 11 0
+";
+    assert_eq!(listing, expected);
+    let counts = String::from_utf8(good(&["stats"], &records)).unwrap();
+    for line in ["answer_17 3", "map_answer_17 2", "protect_answer_17 1"] {
+        assert!(counts.contains(&format!("\n{line}\n")), "{line}");
+    }
+    let printed = good(&["calls"], b"setup 32\nopen 0\npreview 0 4 11 2\n");
+    assert!(printed.ends_with(b"\n3 preview 17 0 0\n"));
+}
+
+#[test]
 fn wrong_use() {
     for args in [
         &["walk"][..],

@@ -15,8 +15,8 @@ use history::PageEntry;
 use history::RANGE_PLACES;
 use history::RangeEntry;
 use history::Unit;
+use ranges::page_words::allowed_rights;
 use ranges::page_words::frame_at;
-use runs::LARGEST_RIGHTS;
 use runs::LAST_PAGE;
 use runs::LAST_SPACE;
 use runs::PAGES;
@@ -67,7 +67,7 @@ fn page_entry_ok(k: u32, e: PageEntry) -> bool
     if LARGEST_POOL <= e.frame {
         return false;
     }
-    e.rights <= LARGEST_RIGHTS
+    allowed_rights(e.rights)
 }
 
 // Whether every field of the range entry is zero.
@@ -121,10 +121,10 @@ fn range_entry_ok(e: RangeEntry) -> bool
     if PAGES < e.limit {
         return false;
     }
-    if !frames_fit(e.base, e.limit, e.offset) {
+    if !allowed_rights(e.rights) {
         return false;
     }
-    e.rights <= LARGEST_RIGHTS
+    frames_fit(e.base, e.limit, e.offset)
 }
 
 fn pages_ok(u: Unit) -> bool

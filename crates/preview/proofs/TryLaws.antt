@@ -9,6 +9,7 @@ use Rattle.words.specs.Rows.{refusal, values, numberOf}
 use Rattle.words.specs.Counts.{count}
 use Rattle.blocks.specs.FrameWords.{lawful, freeIn}
 use Rattle.blocks.specs.Choice.{framesFor, blockCount}
+use Rattle.runs.specs.PageWords.{allowedRights}
 use Rattle.runs.specs.Runs.{rangeCount}
 use Rattle.runs.specs.Walk.{rangeWords}
 use Rattle.control.specs.Control.{poolSize}
@@ -34,7 +35,7 @@ module _ (T : Tables) (F s first n rights : ℕ) (fe : F ≡ poolSize (T .contro
   lent-is = lent-part 1024 s (T .pages)
 
   pub try-asks : Mapping T s first n rights
-      → (lawful F (T .frames) ≡ true) × ((length lent ≡ 1024) × ((n ≤ count F (freeIn (T .frames))) × ((first + n ≤ 1024) × (rights ≤ 7))))
+      → (lawful F (T .frames) ≡ true) × ((length lent ≡ 1024) × ((n ≤ count F (freeIn (T .frames))) × ((first + n ≤ 1024) × (allowedRights rights ≡ true))))
   try-asks q =
       let w = q .spans in
       let long = ap length lent-is ∙ pages-long T (lengths-at T (w .judged .lengths)) s (w .space) in

@@ -6,7 +6,7 @@ ghost use lib.ListN.{length};
 ghost use Rattle.words.specs.Counts.{count};
 ghost use Rattle.blocks.specs.FrameWords.{lawful, freeIn};
 ghost use Rattle.blocks.specs.Choice.{framesFor, blockCount};
-ghost use Rattle.runs.specs.PageWords.{pagesInSpace};
+ghost use Rattle.runs.specs.PageWords.{pagesInSpace, allowedRights};
 ghost use Rattle.runs.specs.Runs.{rangeCount};
 ghost use Rattle.runs.specs.Walk.{rangeWords};
 ghost use Rattle.layout.specs.declared.TableCall.the-variants.{Preview};
@@ -39,7 +39,7 @@ fn try_map(frames: &[u32], part: &[u32], pool: u32, first: Page, n: u32, rights:
     requires { ⌜ length (now part) ≡ pagesInSpace ⌝ }
     requires { ⌜ n ≤ count pool (freeIn (now frames)) ⌝ }
     requires { ⌜ first .0 + n ≤ pagesInSpace ⌝ }
-    requires { ⌜ rights ≤ 7 ⌝ }
+    requires { ⌜ allowedRights rights ≡ true ⌝ }
     ensures { λ r. ⌜ r .blocks ≡ blockCount pool (freeIn (now (frames .entry))) n ⌝ }
     ensures { λ r. ⌜ r .ranges ≡ rangeCount (rangeWords (mapWords (now (part .entry)) (first .0) n rights (framesFor pool (freeIn (now (frames .entry))) n))) ⌝ }
 {

@@ -8,6 +8,7 @@ ghost use Rattle.words.specs.Tables.{part};
 ghost use Rattle.runs.specs.Walk.{entryOf, ended};
 ghost use Rattle.runs.specs.Inner.{Decides, EndFits, WordFits, zeroFrom};
 ghost use Rattle.runs.specs.Runs.{rangeWordsInSpace, wordsInTableEntry};
+use crate::page_words::allowed_rights;
 use crate::page_words::frame_in;
 use crate::page_words::mapped;
 use crate::page_words::offset;
@@ -66,6 +67,9 @@ fn word_fits(on: bool, v: u32, w: u32) -> bool
 {
     if !mapped(w) {
         return w == 0;
+    }
+    if !allowed_rights(rights_in(w)) {
+        return false;
     }
     if on {
         let before = range_bit(v);

@@ -1,9 +1,10 @@
-// Page words and OFFSETs. Only here a frame number comes out of a page word, or out of a page number and an OFFSET.
+// Page words, rights and OFFSETs. Only here a frame number comes out of a page word, or out of a page number and an OFFSET, and only here rights are tested.
 ghost use mathlib.Core.Path.{_≡_};
-ghost use Prim.Native.Nat.{_≤_};
+ghost use mathlib.Core.Bool.{true};
+ghost use Prim.Native.Nat.{_+_, _*_, _≤_, _<_};
 ghost use Rattle.words.specs.Wrapping.{wordBits, wrapAdd, wrapSub};
 ghost use Rattle.words.specs.Counts.{one-if};
-ghost use Rattle.runs.specs.PageWords.{pageWord, mapped, rangeBit, rightsIn, frameIn};
+ghost use Rattle.runs.specs.PageWords.{mappedPart, rangeBitFactor, reservedRights, allowedRights, pageWord, mapped, rangeBit, rightsIn, frameIn};
 ghost use Rattle.runs.specs.Walk.{bitWord};
 use blocks::Frame;
 use runs::Page;
@@ -16,6 +17,33 @@ const RANGE_BIT: u32 = 32768;
 const MAPPED_IN_RANGE: u32 = 98304;
 
 const RIGHTS: u32 = 4096;
+
+// Rights are 0 to 7; a page that is written but not read is reserved: write alone, and write and execute.
+const LARGEST_RIGHTS: u32 = 7;
+
+const WRITE: u32 = 2;
+
+const WRITE_EXECUTE: u32 = 6;
+
+// Whether rights are reserved.
+pub fn reserved_rights(rights: u32) -> bool
+    ensures { λ r. ⌜ r ≡ reservedRights rights ⌝ }
+{
+    if rights == WRITE {
+        return true;
+    }
+    rights == WRITE_EXECUTE
+}
+
+// Whether rights are allowed, in a call, a page word or an entry of a unit.
+pub fn allowed_rights(rights: u32) -> bool
+    ensures { λ r. ⌜ r ≡ allowedRights rights ⌝ }
+{
+    if LARGEST_RIGHTS < rights {
+        return false;
+    }
+    !reserved_rights(rights)
+}
 
 // Whether the page is mapped.
 pub fn mapped(w: u32) -> bool
@@ -55,27 +83,34 @@ pub fn frame_in(w: u32) -> Frame
     Frame(w % RIGHTS)
 }
 
-// The word of a mapped page.
-pub fn page_word(bit: bool, rights: u32, f: Frame) -> u32
-    requires { ⌜ rights ≤ 7 ⌝ }
-    requires { ⌜ f .0 ≤ 4095 ⌝ }
-    ensures { λ r. ⌜ r ≡ pageWord bit rights (f .0) ⌝ }
+// The word of a mapped page with the range bit given, over `low`, its rights and frame.
+fn over_low(bit: bool, low: u32) -> u32
+    requires { ⌜ low < rangeBitFactor ⌝ }
+    ensures { λ r. ⌜ r ≡ mappedPart + rangeBitFactor * one-if bit + low ⌝ }
 {
-    let low = RIGHTS * rights + f.0;
     if bit {
         return MAPPED_IN_RANGE + low;
     }
     MAPPED + low
 }
 
-// A mapped page's word with the range bit given, 0 for any other.
+// The word of a mapped page.
+pub fn page_word(bit: bool, rights: u32, f: Frame) -> u32
+    requires { ⌜ allowedRights rights ≡ true ⌝ }
+    requires { ⌜ f .0 ≤ 4095 ⌝ }
+    ensures { λ r. ⌜ r ≡ pageWord bit rights (f .0) ⌝ }
+{
+    over_low(bit, RIGHTS * rights + f.0)
+}
+
+// A mapped page's word with the range bit given, its rights and frame as they stand; 0 for any other.
 pub fn bit_word(bit: bool, w: u32) -> u32
     ensures { λ r. ⌜ r ≡ bitWord bit w ⌝ }
 {
     if !mapped(w) {
         return 0;
     }
-    page_word(bit, rights_in(w), frame_in(w))
+    over_low(bit, w % RANGE_BIT)
 }
 
 // The OFFSET that leads from page p to frame f.

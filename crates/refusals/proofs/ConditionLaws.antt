@@ -6,20 +6,22 @@ use Prim.Native.Nat.{ℕ, _+_, _-_, _*_, _<_, _≤_}
 use native.Mathlib.Omega.{arith}
 use lib.Dec.{leb, ltb}
 use lib.ListN.{take, drop}
-use borrow.Author.Tests.{le-leb, lt-leb, leb-true, ltb-false, not-false}
+use borrow.Author.Tests.{le-leb, lt-leb, leb-true, ltb-false, le-ltb, not-false}
 use Rattle.words.specs.Counts.{count}
 use Rattle.words.specs.Searches.{allFrom, anyFrom}
-use Rattle.words.specs.Refusals.{decide, numbers, NoneApplies, done, next}
+use Rattle.words.specs.Refusals.{Refusal, decide, numbers, NoneApplies, done, next}
 use Rattle.words.specs.Rows.{numberOf, after, refusalOrder, among, inOrder}
-use Rattle.words.proofs.Cases.{and-true}
+use Rattle.words.proofs.Cases.{by-test, true-false, and-true}
+use Rattle.words.proofs.RefusalLaws.{refused, passed}
 use Rattle.blocks.specs.FrameWords.{isPoolSize, freeIn}
 use Rattle.blocks.proofs.Published.{lawful-facts}
-use Rattle.runs.specs.PageWords.{allowedRights}
+use Rattle.runs.specs.PageWords.{reservedRights, allowedRights}
+use Rattle.runs.proofs.WordLaws.{allowed-low, allowed-unreserved, allowed-by, reserved-low}
 use Rattle.control.specs.Control.{poolSize}
 use Rattle.layout.specs.declared.TableCall.the-variants.{Open, Close, Map, Unmap, Protect, Coverage}
 use Rattle.layout.specs.Tables.{Tables}
 use Rattle.layout.specs.Sound.{sound}
-use Rattle.layout.specs.Calls.{noSuchSpace, alreadyOpen, isSpan, mappedAt, alreadyMapped, notMapped, nothingMapped, tooFewFrames, noNumberLeft, sizedRow, row}
+use Rattle.layout.specs.Calls.{noSuchSpace, wrongRights, rightsReserved, alreadyOpen, isSpan, mappedAt, alreadyMapped, notMapped, nothingMapped, tooFewFrames, noNumberLeft, sizedRow, row}
 use Rattle.layout.proofs.SoundLaws.{Lengths, lengths-at, sound-parts}
 use Rattle.tablecheck.specs.Inner.{pageMapped}
 use Rattle.tablecheck.proofs.SpanLaws.{lent-mapped}
@@ -38,14 +40,24 @@ pub size-right : (F : ℕ) → 1 ≤ F → F ≤ 4096 → not (isPoolSize F) ≡
 unfolding isPoolSize
 size-right F a b = rw (le-leb 1 F a, le-leb F 4096 b) refl
 
--- 6
-pub rights-pass : (r : ℕ) → r ≤ 7 → not (allowedRights r) ≡ false
-unfolding allowedRights
-rights-pass r h = ap not (le-leb r 7 h)
+-- 6, 17
+pub reserved-passes-six : (r : ℕ) → reservedRights r ≡ true → ltb 7 r ≡ false
+reserved-passes-six r t = le-ltb 7 r (reserved-low r t)
 
-pub rights-fail : (r : ℕ) → 7 < r → not (allowedRights r) ≡ true
-unfolding allowedRights
-rights-fail r h = ap not (lt-leb r 7 h)
+-- rights that are neither allowed nor reserved are above 7
+pub rights-above : (r : ℕ) → allowedRights r ≡ false → reservedRights r ≡ false → ltb 7 r ≡ true
+rights-above r f g = by-test (ltb 7 r) (λ t. t) (λ n. true-false (allowedRights r) (allowed-by r (ltb-false 7 r n) g) f)
+
+-- where rights are allowed neither applies, and where they are not one of the two does
+module _ (r : ℕ) (rs : List (Refusal ℕ)) where
+  pub rights-pass : allowedRights r ≡ true → decide (wrongRights r ∷ rightsReserved r ∷ rs) 0 ≡ decide rs 0
+  rights-pass t = passed _ _ _ _ (le-ltb 7 r (allowed-low r t)) ∙ passed _ _ _ _ (allowed-unreserved r t)
+
+  pub rights-stop : allowedRights r ≡ false → decide (wrongRights r ∷ rightsReserved r ∷ rs) 0 ≡ decide (wrongRights r ∷ rightsReserved r ∷ []) 0
+  rights-stop f =
+      by-test (reservedRights r)
+      (λ t. let p = reserved-passes-six r t in passed _ _ _ _ p ∙ refused _ _ _ _ t ∙ sym (passed _ _ _ _ p ∙ refused _ _ _ _ t))
+      (λ g. let a = rights-above r f g in refused _ _ _ _ a ∙ sym (refused _ _ _ _ a))
 
 -- 11, 12: the space's part of the page buffer is lent
 module _ (T : Tables) (s first n : ℕ) (r : Bool) where
@@ -87,7 +99,7 @@ pub record Shown (T : Tables) (s first n : ℕ) : Type 0 where
 
 pub shared-shown : (T : Tables) (s first n rights : ℕ) → NoneApplies (shared T s first n rights) → Shown T s first n
 unfolding shared ofTables ofSpan isSpan
-shared-shown T s first n rights (next a (next b (next c (next d (next e (next f done)))))) =
+shared-shown T s first n rights (next a (next b (next c (next d (next r (next e (next f done))))))) =
     record { lengths = lengths-at T (not-false _ a); tables = not-false _ b; space = ltb-false 3 s c; room = leb-true _ _ (and-true (leb 1 n) (leb (first + n) 1024) (not-false _ e) .1) }
 
 -- the rows by parts
@@ -107,13 +119,13 @@ module _ (T : Tables) (s : ℕ) where
 
   -- a call that gives no rights, or names no span
   pub unmap-parts : (first n : ℕ) → numberOf (row T (Unmap s first n)) ≡ numberOf (row T (Protect s first n 0))
-  unfolding numberOf row after sizedRow decide allowedRights
+  unfolding numberOf row after sizedRow decide reservedRights
   unmap-parts first n = refl
 
   pub close-parts : numberOf (row T (Close s)) ≡ decide (shared T s 0 1024 0 ++ (noNumberLeft (T .control) ∷ [])) 0
-  unfolding numberOf row after sizedRow shared ofTables ofSpan decide allowedRights isSpan
+  unfolding numberOf row after sizedRow shared ofTables ofSpan decide reservedRights isSpan
   close-parts = refl
 
   pub coverage-parts : numberOf (row T (Coverage s)) ≡ decide (shared T s 0 1024 0 ++ (nothingMapped T s ∷ [])) 0
-  unfolding numberOf row after sizedRow shared ofTables ofSpan decide allowedRights isSpan
+  unfolding numberOf row after sizedRow shared ofTables ofSpan decide reservedRights isSpan
   coverage-parts = refl

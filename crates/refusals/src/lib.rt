@@ -53,6 +53,7 @@ pub fn outcome(a: Answer) -> Outcome
         Answer::WrongPoolSize => refusal(4),
         Answer::NoSuchSpace => refusal(5),
         Answer::WrongRights => refusal(6),
+        Answer::RightsReserved => refusal(17),
         Answer::WrongAccess => refusal(7),
         Answer::WrongSpan => refusal(8),
         Answer::AlreadyOpen => refusal(9),
@@ -81,7 +82,7 @@ fn judge_tables(control: &[u32], frames: &[u32], pages: &[u32], ranges: &[u32]) 
     }
 }
 
-// What the calls on a space share: 1, 2, 5, 6, 8, 10. A call that gives no rights asks for 0, one that names no span for the whole space.
+// What the calls on a space share: 1, 2, 5, 6, 17, 8, 10. A call that gives no rights asks for 0, one that names no span for the whole space.
 pub fn judge_shared(
     control: &[u32],
     frames: &[u32],

@@ -11,22 +11,22 @@ use lib.ListN.{length, getD, drop, take, replicate, length-replicate, length-dro
 use lib.Seq.{drop-cons, ext-getD, getD-drop, take-add, take-at, drop-at, length-take-le, getD-append-add}
 use borrow.Author.Tests.{le-leb, lt-leb, eqb-true, eqb-false, eq-eqb, not-true, not-false}
 use Rattle.words.specs.Tables.{part}
-use Rattle.words.specs.Searches.{allFrom}
+use Rattle.words.specs.Searches.{allFrom, every}
 use Rattle.words.specs.Inner.{sameIn}
-use Rattle.words.proofs.SearchLaws.{allFrom-at, some-fails}
+use Rattle.words.proofs.SearchLaws.{allFrom-at, some-fails, every-at, at-every}
 use Rattle.words.specs.Wrapping.{wrapSub}
 use Rattle.words.proofs.Cases.{by-test, by-dec, true-false, and-true, true-and}
 use Rattle.words.proofs.CountLaws.{one-if-le}
-use Rattle.runs.specs.PageWords.{mapped, rangeBit, frameIn, rightsIn}
+use Rattle.runs.specs.PageWords.{allowedRights, mapped, rangeBit, frameIn, rightsIn, isPageWord}
 use Rattle.runs.specs.Running.{RunningLength, Carries}
-use Rattle.runs.specs.Walk.{joins, goesOn, bitWord, withBits, ended, entryOf, entries, rangeWords, same, lawfulRanges}
+use Rattle.runs.specs.Walk.{joins, goesOn, bitWord, withBits, ended, entryOf, entries, rangeWords, same, allPageWords, lawfulRanges}
 use Rattle.runs.specs.Inner.{Empty, Onward, Along, nowhere, empty, onward, Decides, EndFits, WordFits, zeroFrom}
-use Rattle.runs.proofs.WordLaws.{zero-unmapped, ahead, joins-at, goes-join, goes-new, bit-none, of-bit, bit-zero, zero-word, mapped-word, word-cases, lawful-word, own-bit}
+use Rattle.runs.proofs.WordLaws.{zero-unmapped, ahead, joins-at, goes-join, goes-new, bit-none, of-bit, bit-zero, zero-word, mapped-word, word-cases, word-rights, bit-of, own-bit}
 use Rattle.runs.proofs.RunningLaws.{carries-is, no-run, running-only, running-joins}
 use Rattle.runs.proofs.StepLaws.{inside-words, run-is, word-is, walk-empty, walk-onward, Walked, walk-start, run-le, at-length, Left, left-step, left-end, left-room, walk-step, zeros-follow, stops-step, stops-end, bit-run, walk-end}
 use Rattle.runs.proofs.WalkLaws.{wordBefore, runBefore, goes-zero, before-le, whole, whole-step, bit-at, withBits-at, length-withBits, ended-short, ended-long, ended-on, length-entry, last-mapped, last-none, before-word}
 
-pub same-refl : (xs : List ℕ) → same xs xs ≡ true
+same-refl : (xs : List ℕ) → same xs xs ≡ true
 unfolding same
 same-refl [] = refl
 same-refl (x ∷ xs) = rw (eq-eqb x x refl, same) (same-refl xs)
@@ -41,20 +41,29 @@ same-at (x ∷ xs) (y ∷ ys) t =
     (λ e. ap₂ _∷_ (eqb-true x y e) (same-at xs ys (rw (e, same) at t)))
     (λ e. true-false false (rw (e, same) at t) refl)
 
--- a test that decides both equations is the definition
-pub decided : (ws rs : List ℕ) (r : Bool) → Decides r ((ws ≡ withBits ws) × (rs ≡ rangeWords ws)) → r ≡ lawfulRanges ws rs
-unfolding lawfulRanges
-decided ws rs true d =
-    let p = d .yes refl in
-    sym (true-and _ _ (ap (same ws) (sym (p .0)) ∙ same-refl ws) (ap (same rs) (sym (p .1)) ∙ same-refl rs))
-decided ws rs false d =
-    by-test (same ws (withBits ws) && same rs (rangeWords ws))
-    (λ t. let p = and-true _ _ t in absurd (d .no refl (same-at _ _ (p .0), same-at _ _ (p .1))))
-    (λ t. sym t)
+-- what the computed form says: the layout of each word, and both equations
+pub record Lawful (ws rs : List ℕ) : Type 0 where
+  pub layout : (p : ℕ) → p < length ws → isPageWord (getD ws p 0) ≡ true
+  pub pages : ws ≡ withBits ws
+  pub ranges : rs ≡ rangeWords ws
 
-pub lawful-at : (ws rs : List ℕ) → lawfulRanges ws rs ≡ true → (ws ≡ withBits ws) × (rs ≡ rangeWords ws)
-unfolding lawfulRanges
-lawful-at ws rs t = let p = and-true _ _ t in (same-at _ _ (p .0), same-at _ _ (p .1))
+pub lawful-at : (ws rs : List ℕ) → lawfulRanges ws rs ≡ true → Lawful ws rs
+unfolding lawfulRanges allPageWords
+lawful-at ws rs t =
+    let p = and-true _ _ t in
+    let q = and-true _ _ (p .1) in
+    record { layout = every-at (λ i w. isPageWord w) 0 ws 0 (p .0); pages = same-at _ _ (q .0); ranges = same-at _ _ (q .1) }
+
+pub at-lawful : (ws rs : List ℕ) → Lawful ws rs → lawfulRanges ws rs ≡ true
+unfolding lawfulRanges allPageWords
+at-lawful ws rs l =
+    true-and _ _ (at-every (λ i w. isPageWord w) 0 ws 0 (l .layout))
+    (true-and _ _ (ap (same ws) (sym (l .pages)) ∙ same-refl ws) (ap (same rs) (sym (l .ranges)) ∙ same-refl rs))
+
+-- a test that decides it is the definition
+pub decided : (ws rs : List ℕ) (r : Bool) → Decides r (Lawful ws rs) → r ≡ lawfulRanges ws rs
+decided ws rs true d = sym (at-lawful ws rs (d .yes refl))
+decided ws rs false d = by-test (lawfulRanges ws rs) (λ t. absurd (d .no refl (lawful-at ws rs t))) (λ t. sym t)
 
 -- what the leaf functions show
 pub says-no : {P : Type 0} (r : Bool) → r ≡ false → (P → ⊥) → Decides r P
@@ -98,21 +107,24 @@ beq-refl : (a : Bool) → Bool·beq a a ≡ true
 beq-refl true = refl
 beq-refl false = refl
 
--- the three ways that a word fits
+-- the ways that a word fits, or not
 pub word-none : (on : Bool) (v w : ℕ) → mapped w ≡ false → Decides (eqb w 0) (WordFits on v w)
 word-none on v w m = record {
   yes = λ t. record { layout = zero-word w (eqb-true _ _ t); bit = λ o n. true-false (mapped w) n m };
   no = λ t p. word-cases w (p .layout) (eqb-false _ _ t) (λ n. true-false (mapped w) n m);
 }
 
-pub word-on : (on : Bool) (v w : ℕ) (a b : Bool) → mapped w ≡ true → on ≡ true → a ≡ rangeBit w → b ≡ rangeBit v → Decides (Bool·beq a b) (WordFits on v w)
-word-on on v w a b m o x y = record {
-  yes = λ t. record { layout = mapped-word w m; bit = λ u n. sym x ∙ beq-true a b t ∙ y };
+pub word-wrong : (on : Bool) (v w r : ℕ) → mapped w ≡ true → r ≡ rightsIn w → allowedRights r ≡ false → WordFits on v w → ⊥
+word-wrong on v w r m e f p = true-false (allowedRights (rightsIn w)) (word-rights w (p .layout) m) (ap allowedRights (sym e) ∙ f)
+
+pub word-on : (on : Bool) (v w r : ℕ) (a b : Bool) → mapped w ≡ true → r ≡ rightsIn w → allowedRights r ≡ true → on ≡ true → a ≡ rangeBit w → b ≡ rangeBit v → Decides (Bool·beq a b) (WordFits on v w)
+word-on on v w r a b m e f o x y = record {
+  yes = λ t. record { layout = mapped-word w m (ap allowedRights (sym e) ∙ f); bit = λ u n. sym x ∙ beq-true a b t ∙ y };
   no = λ t p. let e : a ≡ b = x ∙ p .bit o m ∙ sym y in true-false (Bool·beq a b) (rw e (beq-refl b)) t;
 }
 
-pub word-new : (on : Bool) (v w : ℕ) → mapped w ≡ true → on ≡ false → WordFits on v w
-word-new on v w m o = record { layout = mapped-word w m; bit = λ t n. true-false on t o }
+pub word-new : (on : Bool) (v w r : ℕ) → mapped w ≡ true → r ≡ rightsIn w → allowedRights r ≡ true → on ≡ false → WordFits on v w
+word-new on v w r m e f o = record { layout = mapped-word w m (ap allowedRights (sym e) ∙ f); bit = λ t n. true-false on t o }
 
 -- the end of a run of eight or more pages with its bit
 pub end-entry : (rs : List ℕ) (on : Bool) (at b n v : ℕ) (r : Bool) → 8 ≤ n → rangeBit v ≡ true → on ≡ false → Decides r (part at 4 rs ≡ entryOf b n v) → Decides r (EndFits rs on at b n v)
@@ -164,14 +176,15 @@ zeros-all rs at r h e = record {
       zeros-no rs at (x .0) lo (omega arith) (eqb-false _ _ (x .3));
 }
 
--- The walk at page i: the pages before the run are settled, those of the run have the range bit of the last
+-- The walk at page i: the words before it are of the layout, the pages before the run are settled, those of the run have the range bit of the last
 pub record Checking (ws rs : List ℕ) (i n v at : ℕ) : Type 0 where
   pub walked : Walked ws rs i n v at
+  pub layout : (q : ℕ) → q < i → isPageWord (getD ws q 0) ≡ true
   pub settled : (q : ℕ) → q + n < i → getD ws q 0 ≡ bit-at ws q
   pub unsettled : (q : ℕ) → i ≤ q + n → q < i → getD ws q 0 ≡ bitWord (rangeBit v) (getD ws q 0)
 
 pub check-start : (ws rs : List ℕ) → length ws ≡ 1024 → length rs ≡ 512 → Checking ws rs 0 0 0 0
-check-start ws rs e f = record { walked = walk-start ws rs e f; settled = λ q h. absurd (omega arith); unsettled = λ q lo hi. absurd (omega arith) }
+check-start ws rs e f = record { walked = walk-start ws rs e f; layout = λ q h. absurd (omega arith); settled = λ q h. absurd (omega arith); unsettled = λ q lo hi. absurd (omega arith) }
 
 module _ (ws rs : List ℕ) (i n v at : ℕ) (s : Checking ws rs i n v at) where
   step-left : (on : Bool) (w : ℕ) → i < 1024 → w ≡ getD ws i 0 → on ≡ joins v w → Left _ _ _ _ _ _ (s .walked) on
@@ -216,6 +229,7 @@ module _ (ws rs : List ℕ) (i n v at : ℕ) (s : Checking ws rs i n v at) where
       let own : getD ws i 0 ≡ bitWord (rangeBit w) (getD ws i 0) = rw (← e) (own-bit w (g .layout)) in
       record {
         walked = walk-step _ _ _ _ _ _ (s .walked) rs on w m at′ h e o mm p (s .walked .table) (rw p (taken-more on room f));
+        layout = λ q lt. by-dec (ℕ-discrete q i) (λ same. rw (same, ← e) (g .layout)) (λ ne. s .layout q (omega arith));
         settled = by-test on
             (λ t q lt. s .settled q (omega (arith, goes-join n v w (sym o ∙ t))))
             (λ t q lt.
@@ -234,10 +248,27 @@ module _ (ws rs : List ℕ) (i n v at : ℕ) (s : Checking ws rs i n v at) where
             (λ t. absurd (omega (arith, goes-new n v w (sym o ∙ t), one-if-le (mapped w)))));
       }
 
+  -- a mapped word before page i is that of a page, and has allowed rights
+  before-page : mapped v ≡ true → 1 ≤ i
+  before-page m = by-dec (decLe 1 i) (λ y. y) (λ z. true-false _ m (ap mapped (word-is _ _ _ _ _ _ (s .walked)) ∙ last-none ws i (omega (arith, before-le ws i))))
+
+  before-rights : mapped v ≡ true → allowedRights (rightsIn v) ≡ true
+  before-rights m =
+      let pos = before-page m in
+      let v-is : v ≡ getD ws (i - 1) 0 = word-is _ _ _ _ _ _ (s .walked) ∙ before-word ws i pos in
+      word-rights v (ap isPageWord v-is ∙ s .layout (i - 1) (omega arith)) m
+
   -- over a stretch
   check-onward : (k : ℕ) → mapped v ≡ true → Onward ws i v k → Checking ws rs (i + k) (n + k) (v + k) at
   check-onward k m o = record {
     walked = walk-onward ws rs i n v at k m (s .walked) o;
+    layout = λ q lt.
+        by-dec (decLt q i)
+        (λ before. s .layout q before)
+        (λ here.
+        let frames = o .frames in
+        let b = ahead v (q - i + 1) m (omega arith) in
+        rw (word q (omega arith) lt) (mapped-word _ (b .maps) (ap allowedRights (b .rights) ∙ before-rights m)));
     settled = λ q lt. s .settled q (omega arith);
     unsettled = λ q lo hi.
         let a = ahead v k m (o .frames) in
@@ -245,15 +276,17 @@ module _ (ws rs : List ℕ) (i n v at : ℕ) (s : Checking ws rs i n v at) where
         (λ before. s .unsettled q (omega arith) before ∙ ap (λ (b : Bool). bitWord b (getD ws q 0)) (sym (a .bit)))
         (λ here.
         let frames = o .frames in
-        let w : getD ws q 0 ≡ v + (q - i + 1) = let e : i + (q - i) ≡ q = omega arith in rw e at (o .next (q - i) (omega arith)) in
         let b = ahead v (q - i + 1) m (omega arith) in
-        rw w (own-bit _ (mapped-word _ (b .maps)) ∙ ap (λ (x : Bool). bitWord x (v + (q - i + 1))) (b .bit ∙ sym (a .bit))));
+        rw (word q (omega arith) hi) (bit-of _ (b .maps) ∙ ap (λ (x : Bool). bitWord x (v + (q - i + 1))) (b .bit ∙ sym (a .bit))));
   }
+    where
+      word : (q : ℕ) → i ≤ q → q < i + k → getD ws q 0 ≡ v + (q - i + 1)
+      word q lo hi = let e : i + (q - i) ≡ q = omega arith in rw e at (o .next (q - i) (omega arith))
 
   -- Of a lawful space every test holds
-  module _ (pages : ws ≡ withBits ws) where
+  module _ (l : Lawful ws rs) where
     word-at : (q : ℕ) → q < 1024 → getD ws q 0 ≡ bit-at ws q
-    word-at q h = ap (λ (l : List ℕ). getD l q 0) pages ∙ withBits-at ws q (omega (arith, s .walked .size))
+    word-at q h = ap (λ (x : List ℕ). getD x q 0) (l .pages) ∙ withBits-at ws q (omega (arith, s .walked .size))
 
     before-zero : mapped v ≡ false → v ≡ 0
     unfolding wordBefore bit-at
@@ -277,42 +310,41 @@ module _ (ws rs : List ℕ) (i n v at : ℕ) (s : Checking ws rs i n v at) where
         let m : mapped v ≡ false = ap mapped (word-is _ _ _ _ _ _ (s .walked)) ∙ last-none ws i (sym (run-is _ _ _ _ _ _ (s .walked)) ∙ z) in
         bit-zero v (before-zero m) ∙ sym (lt-leb 8 n (omega arith)))
 
-    module _ (words : rs ≡ rangeWords ws) where
-      entry-fits : (on : Bool) → Left _ _ _ _ _ _ (s .walked) on → on ≡ false → 8 ≤ n → part at 4 rs ≡ entryOf i n v
-      unfolding rangeWords part
-      entry-fits on x o h =
-          let four : ended on i n v ≡ entryOf i n v = rw o (ended-long i n v h) in
-          let z : List ℕ = replicate (512 - length (entries ws)) 0 in
-          let all : rs ≡ take at rs ++ (entryOf i n v ++ (x .more ++ z)) =
-          words ∙ ap (λ (l : List ℕ). l ++ z) (s .walked .listed ∙ ap (λ (l : List ℕ). take at rs ++ l) (x .is ∙ ap (λ (l : List ℕ). l ++ x .more) four))
-          ∙ append-assoc (take at rs) (entryOf i n v ++ x .more) z ∙ ap (λ (l : List ℕ). take at rs ++ l) (append-assoc (entryOf i n v) (x .more) z)
-          in
-          let d : drop at rs ≡ entryOf i n v ++ (x .more ++ z) = ap (drop at) all ∙ drop-at (take at rs) (entryOf i n v ++ (x .more ++ z)) at (at-length _ _ _ _ _ _ (s .walked)) in
-          ap (take 4) d ∙ take-at (entryOf i n v) (x .more ++ z) 4 (length-entry i n v)
+    entry-fits : (on : Bool) → Left _ _ _ _ _ _ (s .walked) on → on ≡ false → 8 ≤ n → part at 4 rs ≡ entryOf i n v
+    unfolding rangeWords part
+    entry-fits on x o h =
+        let four : ended on i n v ≡ entryOf i n v = rw o (ended-long i n v h) in
+        let z : List ℕ = replicate (512 - length (entries ws)) 0 in
+        let all : rs ≡ take at rs ++ (entryOf i n v ++ (x .more ++ z)) =
+        l .ranges ∙ ap (λ (y : List ℕ). y ++ z) (s .walked .listed ∙ ap (λ (y : List ℕ). take at rs ++ y) (x .is ∙ ap (λ (y : List ℕ). y ++ x .more) four))
+        ∙ append-assoc (take at rs) (entryOf i n v ++ x .more) z ∙ ap (λ (y : List ℕ). take at rs ++ y) (append-assoc (entryOf i n v) (x .more) z)
+        in
+        let d : drop at rs ≡ entryOf i n v ++ (x .more ++ z) = ap (drop at) all ∙ drop-at (take at rs) (entryOf i n v ++ (x .more ++ z)) at (at-length _ _ _ _ _ _ (s .walked)) in
+        ap (take 4) d ∙ take-at (entryOf i n v) (x .more ++ z) 4 (length-entry i n v)
 
-      pub end-holds : (on : Bool) (w : ℕ) → i < 1024 → w ≡ getD ws i 0 → on ≡ joins v w → EndFits rs on at i n v
-      end-holds on w h e o = record {
-        bit = λ f. bit-fits (stops-step _ _ _ _ _ _ (s .walked) w h e (sym o ∙ f));
-        entry = λ f g. entry-fits on (step-left on w h e o) f g;
-      }
+    pub end-holds : (on : Bool) (w : ℕ) → i < 1024 → w ≡ getD ws i 0 → on ≡ joins v w → EndFits rs on at i n v
+    end-holds on w h e o = record {
+      bit = λ f. bit-fits (stops-step _ _ _ _ _ _ (s .walked) w h e (sym o ∙ f));
+      entry = λ f g. entry-fits on (step-left on w h e o) f g;
+    }
 
-      pub last-holds : i ≡ 1024 → EndFits rs false at i n v
-      last-holds h = record { bit = λ f. bit-fits (stops-end _ _ _ _ _ _ (s .walked) h); entry = λ f g. entry-fits false (left-end _ _ _ _ _ _ (s .walked) h) f g }
+    pub last-holds : i ≡ 1024 → EndFits rs false at i n v
+    last-holds h = record { bit = λ f. bit-fits (stops-end _ _ _ _ _ _ (s .walked) h); entry = λ f g. entry-fits false (left-end _ _ _ _ _ _ (s .walked) h) f g }
 
-      pub word-holds : (on : Bool) (w : ℕ) → i < 1024 → w ≡ getD ws i 0 → on ≡ joins v w → WordFits on v w
-      unfolding bit-at
-      word-holds on w h e o = record {
-        layout = lawful-word (leb 8 (whole ws (suc i))) w (rw e (word-at i h));
-        bit = λ t ne.
-            let j = joins-at v w (sym o ∙ t) in
-            let pos : 1 ≤ i = by-dec (decLe 1 i) (λ y. y) (λ z. true-false _ (j .this) (ap mapped (word-is _ _ _ _ _ _ (s .walked)) ∙ last-none ws i (omega (arith, before-le ws i)))) in
-            let v-is : v ≡ getD ws (i - 1) 0 = word-is _ _ _ _ _ _ (s .walked) ∙ before-word ws i pos in
-            let k : suc (i - 1) ≡ i = omega arith in
-            let st : whole ws (suc i) ≡ whole ws i = whole-step ws i (omega (arith, s .walked .size)) (rw (← e, ← word-is _ _ _ _ _ _ (s .walked)) (sym o ∙ t)) in
-            let x : getD ws (i - 1) 0 ≡ bitWord (leb 8 (whole ws (suc i))) (getD ws (i - 1) 0) = word-at (i - 1) (omega (arith, s .walked .inside)) ∙ ap (λ (y : ℕ). bitWord (leb 8 y) (getD ws (i - 1) 0)) (ap (whole ws) k ∙ sym st) in
-            let y : v ≡ bitWord (leb 8 (whole ws (suc i))) v = rw v-is x in
-            of-bit (leb 8 (whole ws (suc i))) w (j .next) (rw e (word-at i h)) ∙ sym (of-bit (leb 8 (whole ws (suc i))) v (j .this) y);
-      }
+    pub word-holds : (on : Bool) (w : ℕ) → i < 1024 → w ≡ getD ws i 0 → on ≡ joins v w → WordFits on v w
+    unfolding bit-at
+    word-holds on w h e o = record {
+      layout = rw e (l .layout i (omega (arith, s .walked .size)));
+      bit = λ t ne.
+          let j = joins-at v w (sym o ∙ t) in
+          let pos = before-page (j .this) in
+          let v-is : v ≡ getD ws (i - 1) 0 = word-is _ _ _ _ _ _ (s .walked) ∙ before-word ws i pos in
+          let k : suc (i - 1) ≡ i = omega arith in
+          let st : whole ws (suc i) ≡ whole ws i = whole-step ws i (omega (arith, s .walked .size)) (rw (← e, ← word-is _ _ _ _ _ _ (s .walked)) (sym o ∙ t)) in
+          let x : getD ws (i - 1) 0 ≡ bitWord (leb 8 (whole ws (suc i))) (getD ws (i - 1) 0) = word-at (i - 1) (omega (arith, s .walked .inside)) ∙ ap (λ (y : ℕ). bitWord (leb 8 y) (getD ws (i - 1) 0)) (ap (whole ws) k ∙ sym st) in
+          let y : v ≡ bitWord (leb 8 (whole ws (suc i))) v = rw v-is x in
+          of-bit (leb 8 (whole ws (suc i))) w (j .next) (rw e (word-at i h)) ∙ sym (of-bit (leb 8 (whole ws (suc i))) v (j .this) y);
+    }
 
   -- the end: what is left to look at are the last run and the zeros
   pub check-end : (r : Bool) → i ≡ 1024 → Decides r (EndFits rs false at i n v × (rs ≡ zeroFrom rs (at + length (ended false i n v)))) → r ≡ lawfulRanges ws rs
@@ -320,11 +352,13 @@ module _ (ws rs : List ℕ) (i n v at : ℕ) (s : Checking ws rs i n v at) where
       let z = s .walked .size in
       decided ws rs r (record {
         yes = λ t.
-            let f = d .yes t .0 in (
-              ext-getD 0 ws (withBits ws) (sym (length-withBits ws)) (λ q lt. all-right (stops-end _ _ _ _ _ _ (s .walked) h) f q (omega arith) ∙ sym (withBits-at ws q lt)),
-              d .yes t .1 ∙ words f,
-            );
-        no = λ t q. let f = last-holds (q .0) (q .1) h in d .no t (f, q .1 ∙ sym (words f));
+            let f = d .yes t .0 in
+            record {
+              layout = λ q lt. s .layout q (omega arith);
+              pages = ext-getD 0 ws (withBits ws) (sym (length-withBits ws)) (λ q lt. all-right (stops-end _ _ _ _ _ _ (s .walked) h) f q (omega arith) ∙ sym (withBits-at ws q lt));
+              ranges = d .yes t .1 ∙ words f;
+            };
+        no = λ t l. let f = last-holds l h in d .no t (f, l .ranges ∙ sym (words f));
       })
     where
       words : EndFits rs false at i n v → zeroFrom rs (at + length (ended false i n v)) ≡ rangeWords ws
@@ -334,6 +368,7 @@ check-empty : (ws rs : List ℕ) (i at k : ℕ) → Checking ws rs i 0 0 at → 
 unfolding bit-at
 check-empty ws rs i at k s e = record {
   walked = walk-empty ws rs i at k (s .walked) e;
+  layout = λ q lt. by-dec (decLt q i) (λ before. s .layout q before) (λ here. zero-word _ (e .zero q (omega arith) (omega arith)));
   settled = λ q lt.
       by-dec (decLt q i)
       (λ before. s .settled q (omega arith))
@@ -362,5 +397,5 @@ check-along ws rs i n v at p m j n′ v′ s along e c = rw e (check-carries ws 
     go p m (onward t o) = check-onward ws rs i n v at s p t o
 
 -- a test that failed
-pub refuted : (ws rs : List ℕ) → (ws ≡ withBits ws → rs ≡ rangeWords ws → ⊥) → false ≡ lawfulRanges ws rs
-refuted ws rs n = decided ws rs false (record { yes = λ t. true-false false t refl; no = λ t p. n (p .0) (p .1) })
+pub refuted : (ws rs : List ℕ) → (Lawful ws rs → ⊥) → false ≡ lawfulRanges ws rs
+refuted ws rs n = decided ws rs false (record { yes = λ t. true-false false t refl; no = λ t l. n l })

@@ -16,7 +16,7 @@ use Rattle.words.proofs.WrappingLaws.{sub-only}
 use Rattle.runs.specs.PageWords.{rangeBit, frameIn}
 use Rattle.runs.specs.Runs.{Longest, InRange, Gives, Table, nothing, entry, Has, here, later, RangesSound}
 use Rattle.runs.specs.Walk.{bitWord, withBits, entries, rangeWords, lawfulRanges}
-use Rattle.runs.proofs.WordLaws.{zero-unmapped, bit-zero, of-bit, word-cases, lawful-word, own-bit}
+use Rattle.runs.proofs.WordLaws.{zero-unmapped, bit-zero, of-bit, word-cases, own-bit}
 use Rattle.runs.proofs.WalkLaws.{whole, bit-at, withBits-at, length-withBits}
 use Rattle.runs.proofs.RunsLaws.{long-in, bit-is, table-is, table-all}
 use Rattle.runs.proofs.CheckLaws.{decided, lawful-at, says-yes}
@@ -85,14 +85,14 @@ module _ (ws : List ℕ) (size : length ws ≡ 1024) where
     unfolding rangeWords bit-at
     lawful-sound t =
         let e = lawful-at ws rs t in
-        let at : (p : ℕ) → p < length ws → getD ws p 0 ≡ bitWord (leb 8 (whole ws (suc p))) (getD ws p 0) = λ p h. ap (λ (l : List ℕ). getD l p 0) (e .0) ∙ withBits-at ws p h in
+        let at : (p : ℕ) → p < length ws → getD ws p 0 ≡ bitWord (leb 8 (whole ws (suc p))) (getD ws p 0) = λ p h. ap (λ (l : List ℕ). getD l p 0) (e .pages) ∙ withBits-at ws p h in
         record {
-          words = λ p h. lawful-word (leb 8 (whole ws (suc p))) (getD ws p 0) (at p h);
+          words = e .layout;
           marks = λ p i.
               let fits = i .longest .run .fits in
               let to = i .to in
               let b = bit-is ws p (omega arith) true (λ u. i) (λ f. true-false true refl f) in
-              of-bit true (getD ws p 0) (i .longest .run .maps p (i .from) (i .to)) (ap (λ (l : List ℕ). getD l p 0) (e .0) ∙ b);
+              of-bit true (getD ws p 0) (i .longest .run .maps p (i .from) (i .to)) (ap (λ (l : List ℕ). getD l p 0) (e .pages) ∙ b);
           marked = λ p m u.
               by-dec (decLt p (length ws))
               (λ h. by-dec (decLe 8 (whole ws (suc p)))
@@ -103,7 +103,7 @@ module _ (ws : List ℕ) (size : length ws ≡ 1024) where
               (λ out. true-false _ m (zero-unmapped (getD ws p 0) (List·getD-eq-default ws 0 (omega arith))));
           used = entries ws;
           unused = 512 - length (entries ws);
-          split = e .1;
+          split = e .ranges;
           listed = table-is ws (omega arith);
           all = table-all ws;
         }
@@ -116,14 +116,15 @@ module _ (ws : List ℕ) (size : length ws ≡ 1024) where
         let count : s .unused ≡ 512 - length (entries ws) =
         omega (arith, ap length (s .split), length-append (s .used) (replicate (s .unused) 0), length-replicate {A = ℕ} (s .unused) 0, ap length same)
         in
-        sym (decided ws rs true (says-yes true refl (
-          ext-getD 0 ws (withBits ws) (sym (length-withBits ws)) (λ q h.
+        sym (decided ws rs true (says-yes true refl (record {
+          layout = s .words;
+          pages = ext-getD 0 ws (withBits ws) (sym (length-withBits ws)) (λ q h.
               let in-range : rangeBit (getD ws q 0) ≡ true → InRange ws q =
               λ t. word-cases (getD ws q 0) (s .words q h) (λ z. true-false _ t (bit-zero (getD ws q 0) z)) (λ m. s .marked q m t)
               in
-              own-bit (getD ws q 0) (s .words q h) ∙ sym (bit-is ws q h (rangeBit (getD ws q 0)) in-range (λ f i. true-false _ (s .marks q i) f))),
-          s .split ∙ ap₂ (λ (l : List ℕ) (n : ℕ). l ++ replicate n 0) same count,
-        )))
+              own-bit (getD ws q 0) (s .words q h) ∙ sym (bit-is ws q h (rangeBit (getD ws q 0)) in-range (λ f i. true-false _ (s .marks q i) f)));
+          ranges = s .split ∙ ap₂ (λ (l : List ℕ) (n : ℕ). l ++ replicate n 0) same count;
+        })))
 
 -- The check is exact.
 pub ranges-exactly : (ws rs : List ℕ) → length ws ≡ 1024 → length rs ≡ 512 → (lawfulRanges ws rs ≡ true → RangesSound ws rs) × (RangesSound ws rs → lawfulRanges ws rs ≡ true)

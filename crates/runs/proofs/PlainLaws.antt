@@ -1,4 +1,4 @@
--- Runs are blind to the range bit: range bits and range words depend only on which pages are mapped, with which frames and rights. So what was rebuilt is lawful.
+-- Runs are blind to the range bit: range bits and range words depend only on which pages are mapped, with which frames and rights. So what was rebuilt of words of the layout is lawful.
 use mathlib.Core.Path.{_≡_, refl, ap, ap₂, _∙_, sym}
 use mathlib.Core.Bool.{Bool, true, false}
 use mathlib.Core.List.{List, [], _∷_, _++_}
@@ -8,12 +8,12 @@ use native.Mathlib.Omega.{arith}
 use lib.Dec.{leb}
 use lib.ListN.{length, getD, replicate}
 use Rattle.words.specs.Counts.{one-if}
-use Rattle.words.proofs.Cases.{by-test, by-dec, true-false, true-and}
-use Rattle.runs.specs.PageWords.{mapped}
+use Rattle.words.proofs.Cases.{by-test, by-dec, true-false}
+use Rattle.runs.specs.PageWords.{mapped, isPageWord}
 use Rattle.runs.specs.Walk.{joins, goesOn, runAfter, bitWord, bitsFrom, withBits, ended, entryOf, entriesFrom, entries, rangeWords, lawfulRanges}
-use Rattle.runs.proofs.WordLaws.{zero-unmapped, bit-none, joins-at, join, not-joins, like-bit, bit-bit, goes-join, goes-new}
-use Rattle.runs.proofs.WalkLaws.{goes-some, after-cons, after-stop, ended-on, ended-short, ended-long}
-use Rattle.runs.proofs.CheckLaws.{same-refl}
+use Rattle.runs.proofs.WordLaws.{zero-unmapped, bit-none, joins-at, join, not-joins, like-bit, bit-bit, bit-word, goes-join, goes-new}
+use Rattle.runs.proofs.WalkLaws.{goes-some, after-cons, after-stop, ended-on, ended-short, ended-long, whole, bit-at, withBits-at, length-withBits}
+use Rattle.runs.proofs.CheckLaws.{at-lawful}
 
 joins-bit : (a b : Bool) (v w : ℕ) → joins (bitWord a v) (bitWord b w) ≡ joins v w
 joins-bit a b v w =
@@ -121,10 +121,15 @@ bits-again ws = bits-blind (withBits ws) ws (plain-withBits ws)
 pub ranges-again : (ws : List ℕ) → rangeWords (withBits ws) ≡ rangeWords ws
 ranges-again ws = ranges-blind (withBits ws) ws (plain-withBits ws)
 
--- what was rebuilt is lawful
-pub renewed-lawful : (ws : List ℕ) → lawfulRanges (withBits ws) (rangeWords ws) ≡ true
-unfolding lawfulRanges
-renewed-lawful ws = rw (bits-again ws, ranges-again ws) (true-and _ _ (same-refl (withBits ws)) (same-refl (rangeWords ws)))
+-- what was rebuilt of words of the layout is lawful
+pub renewed-lawful : (ws : List ℕ) → ((p : ℕ) → p < length ws → isPageWord (getD ws p 0) ≡ true) → lawfulRanges (withBits ws) (rangeWords ws) ≡ true
+unfolding bit-at
+renewed-lawful ws layout =
+    at-lawful (withBits ws) (rangeWords ws) (record {
+      layout = λ p h. let lt : p < length ws = omega (arith, length-withBits ws) in rw (withBits-at ws p lt) (bit-word (leb 8 (whole ws (suc p))) (getD ws p 0) (layout p lt));
+      pages = sym (bits-again ws);
+      ranges = sym (ranges-again ws);
+    })
 
 -- words of unmapped pages have no range bit and no range
 

@@ -18,7 +18,7 @@ use Rattle.words.proofs.WriteLaws.{change-none, change-more}
 use Rattle.runs.specs.PageWords.{mapped, rangeBit}
 use Rattle.runs.specs.Walk.{joins, goesOn, bitWord, withBits, ended, entryOf, entries}
 use Rattle.runs.specs.Inner.{Empty, Onward, Along, nowhere, empty, onward, Marked, zeroFrom, markedPages, EndedRun}
-use Rattle.runs.proofs.WordLaws.{zero-unmapped, mapped-word, own-bit, joins-at, bit-none, goes-join, goes-new}
+use Rattle.runs.proofs.WordLaws.{zero-unmapped, bit-of, joins-at, bit-none, goes-join, goes-new}
 use Rattle.runs.proofs.RunningLaws.{no-run}
 use Rattle.runs.proofs.StepLaws.{inside-words, walk-empty, walk-onward, next-on, next-short, next-long, Walked, walk-start, run-le, at-length, left-step, left-end, left-room, walk-step, stops-step, stops-end, bit-run, walk-end}
 use Rattle.runs.proofs.WalkLaws.{runBefore, goes-zero, whole, bit-at, withBits-at, length-withBits, ended-short, ended-long, ended-on}
@@ -144,7 +144,7 @@ module _ (ws xs rs : List ℕ) (i n v at : ℕ) (s : Renewing ws xs rs i n v at)
       let le = run-le _ _ _ _ _ _ (s .walked) in
       let here : w ≡ getD ws i 0 = is ∙ s .waiting i (omega arith) in
       let word : getD (set xs′ i bw) i 0 ≡ bitWord (rangeBit w) w = getD-set-same xs′ i bw 0 (omega arith) ∙ e ∙ ap (λ (b : Bool). bitWord b w) its in
-      let stays : mapped w ≡ true → getD (set xs′ i bw) i 0 ≡ getD ws i 0 = λ t. word ∙ sym (own-bit w (mapped-word w t)) ∙ here in
+      let stays : mapped w ≡ true → getD (set xs′ i bw) i 0 ≡ getD ws i 0 = λ t. word ∙ sym (bit-of w t) ∙ here in
       let other : (q : ℕ) → (q ≡ i → ⊥) → getD (set xs′ i bw) q 0 ≡ getD xs′ q 0 = λ q ne. getD-set-other xs′ i q bw 0 ne in
       record {
         walked = walk-step _ _ _ _ _ _ (s .walked) rs′ on w m at′ h here o g (r .place) (kept rs′ (ended on i n v) (r .table)) (taken rs′ (ended on i n v) at′ (room-step on w h is o) (r .place) (r .table));

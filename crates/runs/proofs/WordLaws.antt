@@ -1,14 +1,44 @@
--- Page words: what they say, when one extends the run of another, and the range bit set again.
+-- Rights that are allowed. Page words: what they say, when one extends the run of another, and the range bit set again.
 use mathlib.Core.Path.{_≡_, refl, ap, _∙_, sym}
-use mathlib.Core.Bool.{Bool, true, false, _&&_}
+use mathlib.Core.Bool.{Bool, true, false, not}
+use mathlib.Core.Logic.{_⊎_, inl, inr, ⊎-elim}
 use Prim.Native.Nat.{ℕ, _+_, _*_, _/_, _%_, _<_, _≤_}
 use native.Mathlib.Omega.{arith}
-use lib.Dec.{eqb}
-use borrow.Author.Tests.{eq-eqb, ne-eqb, eqb-true, eqb-false, le-leb}
+use lib.Dec.{eqb, leb}
+use borrow.Author.Tests.{eq-eqb, ne-eqb, eqb-true, eqb-false, leb-true, le-leb, not-true}
 use Rattle.words.specs.Counts.{one-if}
 use Rattle.words.proofs.Cases.{by-test, true-false, and-true, true-and}
-use Rattle.runs.specs.PageWords.{rightsFactor, pageWord, mapped, rangeBit, rightsIn, frameIn, allowedRights, isPageWord}
+use Rattle.runs.specs.PageWords.{rightsFactor, reservedRights, NotReserved, allowedRights, pageWord, mapped, rangeBit, rightsIn, frameIn, isPageWord}
 use Rattle.runs.specs.Walk.{joins, goesOn, bitWord}
+
+-- rights: 2 and 6 are reserved, and allowed are those up to 7 that are not
+
+pub reserved-is : (r : ℕ) → reservedRights r ≡ true → (r ≡ 2) ⊎ (r ≡ 6)
+unfolding reservedRights
+reserved-is r t = by-test (eqb r 2) (λ e. inl (eqb-true r 2 e)) (λ f. inr (eqb-true r 6 (rw f at t)))
+
+pub is-reserved : (r : ℕ) → (r ≡ 2) ⊎ (r ≡ 6) → reservedRights r ≡ true
+unfolding reservedRights
+is-reserved r (inl e) = ap reservedRights e
+is-reserved r (inr e) = ap reservedRights e
+
+pub allowed-low : (r : ℕ) → allowedRights r ≡ true → r ≤ 7
+unfolding allowedRights
+allowed-low r t = leb-true _ _ (and-true (leb r 7) (not (reservedRights r)) t .0)
+
+pub allowed-unreserved : (r : ℕ) → allowedRights r ≡ true → reservedRights r ≡ false
+unfolding allowedRights
+allowed-unreserved r t = not-true _ (and-true (leb r 7) (not (reservedRights r)) t .1)
+
+pub not-reserved : (r : ℕ) → allowedRights r ≡ true → NotReserved r
+not-reserved r t = let f = allowed-unreserved r t in (λ e. true-false _ (is-reserved r (inl e)) f, λ e. true-false _ (is-reserved r (inr e)) f)
+
+pub allowed-by : (r : ℕ) → r ≤ 7 → reservedRights r ≡ false → allowedRights r ≡ true
+unfolding allowedRights
+allowed-by r h f = true-and _ _ (le-leb r 7 h) (ap not f)
+
+pub reserved-low : (r : ℕ) → reservedRights r ≡ true → r ≤ 7
+reserved-low r t = ⊎-elim (λ e. omega arith) (λ e. omega arith) (reserved-is r t)
 
 is-mapped : (w : ℕ) → w / 65536 ≡ 1 → mapped w ≡ true
 unfolding mapped
@@ -77,13 +107,18 @@ bit-mapped b w m = rw (m, bitWord)
 low-bits : (w : ℕ) → 4096 * (w / 4096 % 8) + w % 4096 ≡ w % 32768
 low-bits w = omega arith
 
+-- the bit is set over rights and frame as they stand
+pub bit-low : (b : Bool) (w : ℕ) → mapped w ≡ true → bitWord b w ≡ 65536 + 32768 * one-if b + w % 32768
+unfolding pageWord rightsIn frameIn
+bit-low b w m = bit-mapped b w m ∙ omega (arith, low-bits w)
+
 bit-on : (b : Bool) (w : ℕ) → mapped w ≡ true → b ≡ true → bitWord b w ≡ 98304 + w % 32768
-unfolding pageWord one-if rightsIn frameIn
-bit-on b w m e = bit-mapped b w m ∙ rw e (omega (arith, low-bits w))
+unfolding one-if
+bit-on b w m e = bit-low b w m ∙ rw e (omega arith)
 
 bit-off : (b : Bool) (w : ℕ) → mapped w ≡ true → b ≡ false → bitWord b w ≡ 65536 + w % 32768
-unfolding pageWord one-if rightsIn frameIn
-bit-off b w m e = bit-mapped b w m ∙ rw e (omega (arith, low-bits w))
+unfolding one-if
+bit-off b w m e = bit-low b w m ∙ rw e (omega arith)
 
 -- what a range bit leaves alone
 pub record Like (w x : ℕ) : Type 0 where
@@ -128,8 +163,8 @@ bit-bit a b w =
     (λ u. bit-off b (bitWord a w) n u ∙ ap (λ (y : ℕ). 65536 + y) e ∙ sym (bit-off b w m u)))
     (λ f. bit-none b (bitWord a w) (k .maps ∙ f) ∙ sym (bit-none b w f))
 
--- A word of the layout is the one with its own range bit
-bit-of : (w : ℕ) → mapped w ≡ true → w ≡ bitWord (rangeBit w) w
+-- A mapped word is the one with its own range bit
+pub bit-of : (w : ℕ) → mapped w ≡ true → w ≡ bitWord (rangeBit w) w
 unfolding rangeBit
 bit-of w m =
     let l = mapped-at w m in
@@ -151,24 +186,34 @@ pub zero-word : (w : ℕ) → w ≡ 0 → isPageWord w ≡ true
 unfolding isPageWord
 zero-word w e = rw (eq-eqb _ _ e) refl
 
-pub mapped-word : (w : ℕ) → mapped w ≡ true → isPageWord w ≡ true
-unfolding isPageWord allowedRights
-mapped-word w m =
-    let r = le-leb (rightsIn w) 7 (omega (arith, rights-lt w)) in
-    by-test (eqb w 0) (λ t. rw t refl) (λ f. rw (f, m, r) refl)
+pub mapped-word : (w : ℕ) → mapped w ≡ true → allowedRights (rightsIn w) ≡ true → isPageWord w ≡ true
+unfolding isPageWord
+mapped-word w m r = by-test (eqb w 0) (λ t. rw t refl) (λ f. rw (f, m, r) refl)
+
+pub word-says : {P : Type 0} (w : ℕ) → isPageWord w ≡ true → (w ≡ 0 → P) → (mapped w ≡ true → allowedRights (rightsIn w) ≡ true → P) → P
+unfolding isPageWord
+word-says w t z m =
+    by-test (eqb w 0) (λ e. z (eqb-true _ _ e)) (λ f.
+    let u = and-true (mapped w) (allowedRights (rightsIn w)) (rw f at t) in
+    m (u .0) (u .1))
 
 pub word-cases : {P : Type 0} (w : ℕ) → isPageWord w ≡ true → (w ≡ 0 → P) → (mapped w ≡ true → P) → P
-unfolding isPageWord
-word-cases w t z m =
-    by-test (eqb w 0) (λ e. z (eqb-true _ _ e)) (λ f.
-    let u : (mapped w && allowedRights (rightsIn w)) ≡ true = rw f at t in
-    m (and-true _ _ u .0))
+word-cases w t z m = word-says w t z (λ n r. m n)
 
-pub lawful-word : (b : Bool) (w : ℕ) → w ≡ bitWord b w → isPageWord w ≡ true
-lawful-word b w e = by-test (mapped w) (λ m. mapped-word w m) (λ f. zero-word w (e ∙ bit-none b w f))
+-- the rights of a mapped page
+pub word-rights : (w : ℕ) → isPageWord w ≡ true → mapped w ≡ true → allowedRights (rightsIn w) ≡ true
+word-rights w t m = word-says w t (λ z. true-false (mapped w) m (zero-unmapped w z)) (λ n r. r)
 
 pub own-bit : (w : ℕ) → isPageWord w ≡ true → w ≡ bitWord (rangeBit w) w
 own-bit w t = word-cases w t (λ z. z ∙ sym (bit-none (rangeBit w) w (zero-unmapped w z))) (λ m. bit-of w m)
+
+-- a word stays of the layout with another range bit
+pub bit-word : (b : Bool) (w : ℕ) → isPageWord w ≡ true → isPageWord (bitWord b w) ≡ true
+bit-word b w t =
+    let k = like-bit b w in
+    word-says w t
+    (λ z. zero-word _ (bit-none b w (zero-unmapped w z)))
+    (λ m r. mapped-word _ (k .maps ∙ m) (ap allowedRights (k .rights m) ∙ r))
 
 -- what a page word made of a range bit, rights and a frame says
 pub record Says (w r f : ℕ) : Type 0 where
@@ -176,10 +221,10 @@ pub record Says (w r f : ℕ) : Type 0 where
   pub rights : rightsIn w ≡ r
   pub frame : frameIn w ≡ f
 
-pub made-word : (b : Bool) (r f : ℕ) → r ≤ 7 → f ≤ 4095 → Says (pageWord b r f) r f
+pub made-word : (b : Bool) (r f : ℕ) → allowedRights r ≡ true → f ≤ 4095 → Says (pageWord b r f) r f
 unfolding pageWord rightsIn frameIn one-if
-made-word true r f hr hf = record { maps = is-mapped (65536 + 32768 * 1 + 4096 * r + f) (omega arith); rights = omega arith; frame = omega arith }
-made-word false r f hr hf = record { maps = is-mapped (65536 + 32768 * 0 + 4096 * r + f) (omega arith); rights = omega arith; frame = omega arith }
+made-word true r f hr hf = let low = allowed-low r hr in record { maps = is-mapped (65536 + 32768 * 1 + 4096 * r + f) (omega arith); rights = omega arith; frame = omega arith }
+made-word false r f hr hf = let low = allowed-low r hr in record { maps = is-mapped (65536 + 32768 * 0 + 4096 * r + f) (omega arith); rights = omega arith; frame = omega arith }
 
 -- the word k above a mapped one, as long as its frame stays below 4,096
 pub record Ahead (v k : ℕ) : Type 0 where

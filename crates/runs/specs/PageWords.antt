@@ -1,6 +1,7 @@
 -- Page words. Document 01, What the host lends: "Pages, 4,096 words, 1,024 for each of spaces 0 to 3: 0 = unmapped; else 65,536 + 32,768 × range bit + 4,096 × rights + frame.
--- Rights add read 1, write 2, execute 4; 0 to 7 are allowed."
-use mathlib.Core.Bool.{Bool, _&&_, _||_}
+-- Rights add read 1, write 2, execute 4; 0 to 7 are allowed."; 02, Change 4: "a writable page must be readable. Rights 2 and 6 are therefore no longer allowed in map, protect, page words, range entries or units".
+use mathlib.Core.Path.{_≡_}
+use mathlib.Core.Bool.{Bool, _&&_, _||_, not}
 use Prim.Native.Nat.{ℕ, _+_, _*_, _/_, _%_}
 use lib.Dec.{leb, eqb}
 use Rattle.words.specs.Counts.{one-if}
@@ -33,12 +34,21 @@ rightsFactor = 4096
 abbrev pub rightsValues : ℕ
 rightsValues = 8
 
--- "0 to 7 are allowed"
+-- "0 to 7 are allowed"; "6 rights above 7"
 abbrev pub largestRights : ℕ
 largestRights = 7
 
+-- 02, Change 4, "Write without read is reserved": "rights 2 or 6"
+unfoldable pub reservedRights : ℕ → Bool
+reservedRights r = eqb r 2 || eqb r 6
+
+-- the same said of statements: neither 2 nor 6
+abbrev pub NotReserved : ℕ → Type 0
+NotReserved r = (r ≡ 2 → ⊥) × (r ≡ 6 → ⊥)
+
+-- 01, "0 to 7 are allowed"; 02, Change 4, "Rights 2 and 6 are therefore no longer allowed": the test of rights in page words and in the entries of units. A call's rights are judged by its two parts, as 6 and 17; an entry of a range table has the rights of its pages
 unfoldable pub allowedRights : ℕ → Bool
-allowedRights r = leb r largestRights
+allowedRights r = leb r largestRights && not (reservedRights r)
 
 unfoldable pub pageWord : Bool → ℕ → ℕ → ℕ
 pageWord bit rights frame = mappedPart + rangeBitFactor * one-if bit + rightsFactor * rights + frame

@@ -1,12 +1,13 @@
--- The computed form of Runs: one walk from page 0 that carries the running length. Law `ranges-exactly` says that `lawfulRanges` holds exactly where `RangesSound` does.
+-- The computed form of Runs: the runs are found in one walk from page 0 that carries the running length. Law `ranges-exactly` says that `lawfulRanges` holds exactly where `RangesSound` does.
 use mathlib.Core.Bool.{Bool, true, false, _&&_}
 use mathlib.Core.List.{List, [], _∷_, _++_}
 use Prim.Native.Nat.{ℕ, suc, _+_, _-_}
 use lib.Dec.{leb, eqb}
 use lib.ListN.{length, replicate}
 use Rattle.words.specs.Counts.{one-if}
+use Rattle.words.specs.Searches.{every}
 use Rattle.words.specs.Wrapping.{wordBits, wrapSub}
-use Rattle.runs.specs.PageWords.{pageWord, mapped, rightsIn, frameIn}
+use Rattle.runs.specs.PageWords.{pageWord, mapped, rightsIn, frameIn, isPageWord}
 use Rattle.runs.specs.Runs.{smallestRange, rangeWordsInSpace}
 
 -- "consecutive mapped pages with consecutive frames and equal rights": word w, of the next page, extends the run of word v
@@ -62,6 +63,10 @@ same [] (y ∷ ys) = false
 same (x ∷ xs) [] = false
 same (x ∷ xs) (y ∷ ys) = elim (eqb x y) [ true ↦ same xs ys | false ↦ false ]
 
--- page words and range words of a space are as its frames and rights say
+-- each word is of the layout
+unfoldable pub allPageWords : List ℕ → Bool
+allPageWords ws = every (λ i w. isPageWord w) 0 ws
+
+-- the page words of a space are of the layout, and its page words and range words are as its frames and rights say
 unfoldable pub lawfulRanges : List ℕ → List ℕ → Bool
-lawfulRanges ws rs = same ws (withBits ws) && same rs (rangeWords ws)
+lawfulRanges ws rs = allPageWords ws && (same ws (withBits ws) && same rs (rangeWords ws))

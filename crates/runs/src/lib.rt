@@ -21,8 +21,5 @@ pub const RANGES: u32 = 128;
 
 pub const ENTRY_WORDS: usize = 4;
 
-// Rights are 0 to 7.
-pub const LARGEST_RIGHTS: u32 = 7;
-
 // A virtual page number of a space. A frame number never stands in its place.
 pub struct Page(pub u32);

@@ -8,7 +8,7 @@ ghost use mathlib.Core.Path.{_≡_};
 ghost use mathlib.Core.Bool.{true};
 ghost use Prim.Native.Nat.{_+_, _≤_};
 ghost use lib.ListN.{length};
-ghost use Rattle.runs.specs.PageWords.{pagesInSpace, lastSpace};
+ghost use Rattle.runs.specs.PageWords.{pagesInSpace, lastSpace, allowedRights};
 ghost use Rattle.words.specs.Counts.{count};
 ghost use Rattle.blocks.specs.FrameWords.{lawful, ownersOf, freeIn, frameWords};
 ghost use Rattle.blocks.specs.Choice.{framesFor, blockCount};
@@ -42,7 +42,7 @@ pub fn map_pages(
     requires { ⌜ length (now ranges) ≡ rangeBufferWords ⌝ }
     requires { ⌜ space ≤ lastSpace ⌝ }
     requires { ⌜ first .0 + n ≤ pagesInSpace ⌝ }
-    requires { ⌜ rights ≤ 7 ⌝ }
+    requires { ⌜ allowedRights rights ≡ true ⌝ }
     ensures { λ r. ⌜ r ≡ blockCount pool (freeIn (now (frames .entry))) n ⌝ }
     ensures { λ _. ⌜ now (frames .exit) ≡ frameWords pool (give (ownersOf (now (frames .entry))) (ownerAt space (first .0)) (framesFor pool (freeIn (now (frames .entry))) n)) ⌝ }
     ensures { λ _. ⌜ Rewritten space (mapWords (spacePages (now (pages .entry)) space) (first .0) n rights (framesFor pool (freeIn (now (frames .entry))) n)) (now (pages .entry)) (now (ranges .entry)) (now (pages .exit)) (now (ranges .exit)) ⌝ }
@@ -99,7 +99,7 @@ pub fn protect_pages(
     requires { ⌜ length (now ranges) ≡ rangeBufferWords ⌝ }
     requires { ⌜ space ≤ lastSpace ⌝ }
     requires { ⌜ first .0 + count ≤ pagesInSpace ⌝ }
-    requires { ⌜ rights ≤ 7 ⌝ }
+    requires { ⌜ allowedRights rights ≡ true ⌝ }
     ensures { λ r. ⌜ r ≡ differing (spacePages (now (pages .entry)) space) (first .0) count rights ⌝ }
     ensures { λ _. ⌜ Rewritten space (protectWords (spacePages (now (pages .entry)) space) (first .0) count rights) (now (pages .entry)) (now (ranges .entry)) (now (pages .exit)) (now (ranges .exit)) ⌝ }
 {

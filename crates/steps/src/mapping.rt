@@ -4,7 +4,7 @@ ghost use mathlib.Core.Bool.{true};
 ghost use mathlib.Core.List.{[], _∷_};
 ghost use Prim.Native.Nat.{_+_, _^_, _≤_};
 ghost use lib.ListN.{length};
-ghost use Rattle.runs.specs.PageWords.{pagesInSpace};
+ghost use Rattle.runs.specs.PageWords.{pagesInSpace, allowedRights};
 ghost use Rattle.words.specs.Counts.{count};
 ghost use Rattle.blocks.specs.FrameWords.{largestPool, ownersOf, freeIn, lawful, frameWords};
 ghost use Rattle.blocks.specs.Choice.{framesOf, framesFor, blockCount};
@@ -27,7 +27,7 @@ pub fn write_block(part: &mut [u32], first: Page, rights: u32, b: Block)
     requires { ⌜ b .order ≤ 10 ⌝ }
     requires { ⌜ b .start .0 + 2 ^ (b .order) ≤ largestPool ⌝ }
     requires { ⌜ first .0 + 2 ^ (b .order) ≤ pagesInSpace ⌝ }
-    requires { ⌜ rights ≤ 7 ⌝ }
+    requires { ⌜ allowedRights rights ≡ true ⌝ }
     ensures { λ _. ⌜ now (part .exit) ≡ mapWords (now (part .entry)) (first .0) (2 ^ (b .order)) rights (framesOf (b ∷ [])) ⌝ }
 {
     let page = first.0;
@@ -59,7 +59,7 @@ fn map_blocks(
     requires { ⌜ 1 ≤ owner ⌝ }
     requires { ⌜ owner + n ≤ 4097 ⌝ }
     requires { ⌜ first .0 + n ≤ pagesInSpace ⌝ }
-    requires { ⌜ rights ≤ 7 ⌝ }
+    requires { ⌜ allowedRights rights ≡ true ⌝ }
     ensures { λ r. ⌜ r ≡ blockCount pool (freeIn (now (frames .entry))) n ⌝ }
     ensures { λ _. ⌜ now (frames .exit) ≡ frameWords pool (give (ownersOf (now (frames .entry))) owner (framesFor pool (freeIn (now (frames .entry))) n)) ⌝ }
     ensures { λ _. ⌜ now (part .exit) ≡ mapWords (now (part .entry)) (first .0) n rights (framesFor pool (freeIn (now (frames .entry))) n) ⌝ }
@@ -98,7 +98,7 @@ pub fn map_space(
     requires { ⌜ 1 ≤ owner ⌝ }
     requires { ⌜ owner + n ≤ 4097 ⌝ }
     requires { ⌜ first .0 + n ≤ pagesInSpace ⌝ }
-    requires { ⌜ rights ≤ 7 ⌝ }
+    requires { ⌜ allowedRights rights ≡ true ⌝ }
     ensures { λ r. ⌜ MapStep pool (now (frames .entry)) (now (part .entry)) owner (first .0) n rights r (now (frames .exit)) (now (part .exit)) (now (ranges .exit)) ⌝ }
 {
     let blocks = map_blocks(frames, part, pool, owner, first, n, rights);

@@ -6,7 +6,7 @@ ghost use lib.ListN.{length};
 ghost use Rattle.words.specs.Counts.{count};
 ghost use Rattle.blocks.specs.FrameWords.{freeIn, lawful};
 ghost use Rattle.blocks.specs.Choice.{framesFor, blockCount};
-ghost use Rattle.runs.specs.PageWords.{pagesInSpace};
+ghost use Rattle.runs.specs.PageWords.{pagesInSpace, allowedRights};
 ghost use Rattle.runs.specs.Runs.{rangeCount};
 ghost use Rattle.runs.specs.Walk.{rangeWords};
 ghost use Rattle.layout.specs.Changes.{mapWords};
@@ -33,7 +33,7 @@ fn preview_blocks(
     requires { ⌜ length (now part) ≡ pagesInSpace ⌝ }
     requires { ⌜ n ≤ count pool (freeIn (now frames)) ⌝ }
     requires { ⌜ first .0 + n ≤ pagesInSpace ⌝ }
-    requires { ⌜ rights ≤ 7 ⌝ }
+    requires { ⌜ allowedRights rights ≡ true ⌝ }
     ensures { λ r. ⌜ r ≡ blockCount pool (freeIn (now (frames .entry))) n ⌝ }
     ensures { λ _. ⌜ now (part .exit) ≡ mapWords (now (part .entry)) (first .0) n rights (framesFor pool (freeIn (now (frames .entry))) n) ⌝ }
 {
@@ -73,7 +73,7 @@ pub fn preview_space(
     requires { ⌜ length (now part) ≡ pagesInSpace ⌝ }
     requires { ⌜ n ≤ count pool (freeIn (now frames)) ⌝ }
     requires { ⌜ first .0 + n ≤ pagesInSpace ⌝ }
-    requires { ⌜ rights ≤ 7 ⌝ }
+    requires { ⌜ allowedRights rights ≡ true ⌝ }
     ensures { λ r. ⌜ r .blocks ≡ blockCount pool (freeIn (now (frames .entry))) n ⌝ }
     ensures { λ r. ⌜ r .ranges ≡ rangeCount (rangeWords (mapWords (now (part .entry)) (first .0) n rights (framesFor pool (freeIn (now (frames .entry))) n))) ⌝ }
 {

@@ -1,10 +1,10 @@
 // Giving pages of one space other rights.
 ghost use mathlib.Core.Path.{_≡_};
-ghost use mathlib.Core.Bool.{false, not};
+ghost use mathlib.Core.Bool.{true, false, not};
 ghost use Prim.Native.Nat.{_+_, _≤_};
 ghost use lib.Dec.{eqb};
 ghost use lib.ListN.{length};
-ghost use Rattle.runs.specs.PageWords.{pagesInSpace, pageWord, rightsIn, frameIn};
+ghost use Rattle.runs.specs.PageWords.{pagesInSpace, allowedRights, pageWord, rightsIn, frameIn};
 ghost use Rattle.words.specs.Counts.{one-if};
 ghost use Rattle.runs.specs.Runs.{rangeWordsInSpace};
 ghost use Rattle.layout.specs.Changes.{protectWords, differing};
@@ -27,7 +27,7 @@ fn one_if_other(rights: u32, w: u32) -> u32
 
 // The word with these rights, its range bit clear.
 fn with_rights(rights: u32, w: u32) -> u32
-    requires { ⌜ rights ≤ 7 ⌝ }
+    requires { ⌜ allowedRights rights ≡ true ⌝ }
     ensures { λ r. ⌜ r ≡ pageWord false rights (frameIn w) ⌝ }
 {
     page_word(false, rights, frame_in(w))
@@ -37,7 +37,7 @@ fn with_rights(rights: u32, w: u32) -> u32
 fn rewrite(part: &mut [u32], first: Page, count: u32, rights: u32) -> u32
     requires { ⌜ length (now part) ≡ pagesInSpace ⌝ }
     requires { ⌜ first .0 + count ≤ pagesInSpace ⌝ }
-    requires { ⌜ rights ≤ 7 ⌝ }
+    requires { ⌜ allowedRights rights ≡ true ⌝ }
     ensures { λ r. ⌜ r ≡ differing (now (part .entry)) (first .0) count rights ⌝ }
     ensures { λ _. ⌜ now (part .exit) ≡ protectWords (now (part .entry)) (first .0) count rights ⌝ }
 {
@@ -65,7 +65,7 @@ pub fn protect_space(
     requires { ⌜ length (now part) ≡ pagesInSpace ⌝ }
     requires { ⌜ length (now ranges) ≡ rangeWordsInSpace ⌝ }
     requires { ⌜ first .0 + count ≤ pagesInSpace ⌝ }
-    requires { ⌜ rights ≤ 7 ⌝ }
+    requires { ⌜ allowedRights rights ≡ true ⌝ }
     ensures { λ r. ⌜ ProtectStep (now (part .entry)) (first .0) count rights r (now (part .exit)) (now (ranges .exit)) ⌝ }
 {
     let n = rewrite(part, first, count, rights);

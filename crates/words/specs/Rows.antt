@@ -52,9 +52,9 @@ pub record Exactly (rs : List (Refusal ℕ)) (number : ℕ) : Type 0 where
   pub accepts : NoneApplies rs → number ≡ 0
   pub none : number ≡ 0 → NoneApplies rs
 
--- "Lowest applying number first.": the order in which conditions are judged
+-- "Lowest applying number first.": the order in which conditions are judged; 02, Change 4: "17 .. after 6 and before 7"
 unfoldable pub refusalOrder : List ℕ
-refusalOrder = 1 ∷ 2 ∷ 3 ∷ 4 ∷ 5 ∷ 6 ∷ 7 ∷ 8 ∷ 9 ∷ 10 ∷ 11 ∷ 12 ∷ 13 ∷ 14 ∷ 15 ∷ []
+refusalOrder = 1 ∷ 2 ∷ 3 ∷ 4 ∷ 5 ∷ 6 ∷ 17 ∷ 7 ∷ 8 ∷ 9 ∷ 10 ∷ 11 ∷ 12 ∷ 13 ∷ 14 ∷ 15 ∷ []
 
 -- numbers of the first list, in its order, each at most once
 unfoldable pub among : List ℕ → List ℕ → Bool

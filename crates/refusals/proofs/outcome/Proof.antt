@@ -97,6 +97,12 @@ enum-told-15 c = search needs
 refusal-requires-15 : tie.Need-refusal-requires-15
 refusal-requires-15 c κs = search needs
 
+enum-told-16 : tie.Need-enum-told-16
+enum-told-16 c = search needs
+
+refusal-requires-16 : tie.Need-refusal-requires-16
+refusal-requires-16 c κs = search needs
+
 returns : tie.Need-returns
 returns c = sym (ap outcome (c .before .a .given .1))
 
@@ -145,6 +151,9 @@ returns-15 c = c .refusal14 .ensures ∙ sym (ap outcome (c .before .enum-told14
 returns-16 : tie.Need-returns-16
 returns-16 c = c .refusal15 .ensures ∙ sym (ap outcome (c .before .enum-told15 .given .1))
 
+returns-17 : tie.Need-returns-17
+returns-17 c = c .refusal16 .ensures ∙ sym (ap outcome (c .before .enum-told16 .given .1))
+
 pub outcome-spec : {M : Type 1} → statement M
 outcome-spec =
     tie.close
@@ -180,6 +189,8 @@ outcome-spec =
     refusal-requires-14
     enum-told-15
     refusal-requires-15
+    enum-told-16
+    refusal-requires-16
     returns
     returns-2
     returns-3
@@ -195,4 +206,5 @@ outcome-spec =
     returns-13
     returns-14
     returns-15
-    returns-16)
+    returns-16
+    returns-17)

@@ -41,7 +41,7 @@ part-protect-space-end-2 : tie.Need-part-protect-space-end-2
 part-protect-space-end-2 c = search needs
 
 protect-space-requires : tie.Need-protect-space-requires
-protect-space-requires c κs = search needs
+protect-space-requires c κs = let p = c .before .before .before .before .pre in (search needs, (search needs, (p .1 .1 .1 .0, p .1 .1 .1 .1)))
 
 same-length : tie.Need-same-length
 same-length c = search needs

@@ -1,6 +1,5 @@
 use Rattle.invalidation.specs.Entries.{zeroPage}
 use Rattle.history.specs.Units.{pageEntryOk}
-use Rattle.runs.specs.PageWords.{allowedRights}
 use borrow.Author.Tests.{eq-eqb, ne-eqb, lt-ltb, le-ltb, le-leb, lt-leb, not-true, not-false}
 use mathlib.Core.Path.{refl, sym, _∙_}
 use borrow.Author.Needs.{needs}
@@ -33,11 +32,14 @@ returns-5 : tie.Need-returns-5
 unfolding pageEntryOk
 returns-5 c = rw (eq-eqb _ _ (c .before .before .before .before .before .before .before .before .if1 .left), pageEntryOk, le-leb _ _ (c .before .before .before .before .before .before .if2 .left), le-leb _ _ (c .before .before .before .before .if3 .left), sym (c .before .before .before .sits-at .ensures) ∙ not-false _ (c .before .before .if4 .left), le-ltb _ _ (c .if5 .taken))
 
+allowed-rights-requires : tie.Need-allowed-rights-requires
+allowed-rights-requires c κs = search needs
+
 returns-6 : tie.Need-returns-6
-unfolding pageEntryOk allowedRights
-returns-6 c = rw (eq-eqb _ _ (c .before .before .before .before .before .before .before .before .before .if1 .left), pageEntryOk, le-leb _ _ (c .before .before .before .before .before .before .before .if2 .left), le-leb _ _ (c .before .before .before .before .before .if3 .left), sym (c .before .before .before .before .sits-at .ensures) ∙ not-false _ (c .before .before .before .if4 .left), lt-ltb _ _ (c .before .if5 .left))
+unfolding pageEntryOk
+returns-6 c = rw (eq-eqb _ _ (c .before .before .before .before .before .before .before .before .before .if1 .left), pageEntryOk, le-leb _ _ (c .before .before .before .before .before .before .before .if2 .left), le-leb _ _ (c .before .before .before .before .before .if3 .left), sym (c .before .before .before .before .sits-at .ensures) ∙ not-false _ (c .before .before .before .if4 .left), lt-ltb _ _ (c .before .if5 .left), sym (c .allowed-rights .ensures))
 
 pub page-entry-ok-spec : {M : Type 1} → statement M
 page-entry-ok-spec =
     tie.close
-    (tie.spec zero-page-requires returns returns-2 returns-3 sits-at-requires returns-4 returns-5 returns-6)
+    (tie.spec zero-page-requires returns returns-2 returns-3 sits-at-requires returns-4 returns-5 allowed-rights-requires returns-6)

@@ -12,7 +12,7 @@ frame-in-requires : tie.Need-frame-in-requires
 frame-in-requires c κs = search needs
 
 page-word-requires : tie.Need-page-word-requires
-page-word-requires c κs = (omega arith, omega (arith, c .frame-in .ensures, frame-lt (c .before .args .w)))
+page-word-requires c κs = (c .before .pre, omega (arith, c .frame-in .ensures, frame-lt (c .before .args .w)))
 
 returns : tie.Need-returns
 returns c = c .page-word .ensures ∙ ap (λ (f : ℕ). pageWord false (c .before .before .args .rights) f) (c .before .frame-in .ensures)

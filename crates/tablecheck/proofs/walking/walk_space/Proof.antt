@@ -60,7 +60,7 @@ returns c =
     let here = goes-here _ _ _ _ _ _ (c .before .before .before .before .before .before .loop .inv .0) _ _ (omega arith) (c .before .before .before .before .pass-page .ensures .1) (c .before .before .before .before .pass-page .ensures .0) in
     let s = c .before .before .before .before .before .before .loop .inv .0 in
     let word = c .before .before .before .before .pass-page .ensures .1 in
-    let no-turn = refuted _ _ (λ p w. c .before .before .step-fits .ensures .no (not-true _ (c .before .if1 .taken)) (end-holds _ _ _ _ _ _ s p w _ _ (omega arith) word (here .1), word-holds _ _ _ _ _ _ s p w _ _ (omega arith) word (here .1))) in
+    let no-turn = refuted _ _ (λ l. c .before .before .step-fits .ensures .no (not-true _ (c .before .if1 .taken)) (end-holds _ _ _ _ _ _ s l _ _ (omega arith) word (here .1), word-holds _ _ _ _ _ _ s l _ _ (omega arith) word (here .1))) in
     (c .unsound .ensures ∙ part-unlawful _ _ _ _ _ _ no-turn, λ t. true-false _ t (c .unsound .ensures))
 
 add-page-fits : tie.Need-add-page-fits Inv-loop μ-loop
