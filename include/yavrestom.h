@@ -5,10 +5,10 @@
  * nobody else writes any of them until the call returns. Otherwise any lengths, any words and any numbers may be
  * passed: each call judges them itself.
  *
- * A call returns its number: 0 if it was accepted, else the lowest refusal that applies. Its two values go into
- * `values`; a refused call puts zeros there and alters neither buffer nor unit. Where `values` has not exactly
- * YAVRESTOM_VALUES words, the number is 1 and nothing at all is written. `values` is no part of a pool's buffers or
- * of a unit, and between calls nobody else writes those.
+ * A call returns its number: 0 if it was accepted, else that of the first refusal that applies, in the order of the
+ * list below. Its two values go into `values`; a refused call puts zeros there and alters neither buffer nor unit.
+ * Where `values` has not exactly YAVRESTOM_VALUES words, the number is 1 and nothing at all is written. `values` is
+ * no part of a pool's buffers or of a unit, and between calls nobody else writes those.
  *
  * A unit belongs to one pool. Whoever sets up the pool then sets up every unit that translates in it: a unit kept
  * from before may later answer frames of the old pool, and no call can tell. Zeroed words are no fresh unit.
@@ -20,6 +20,7 @@
  *    4  the pool size is not 1 to 4,096
  *    5  the space is above 3
  *    6  the rights are above 7
+ *   17  the rights are 2 or 6, write without read
  *    7  the access is not 1, 2 or 4
  *    8  the count is 0, or the span goes past page 1,023; translate: the page is above 1,023
  *    9  the space is already open
@@ -30,7 +31,8 @@
  *   14  fewer frames are free than asked
  *   15  no number is left for a removal record
  *
- * Rights and accesses: read 1, write 2, execute 4. Rights are a sum of these, an access is one of them.
+ * Rights and accesses: read 1, write 2, execute 4. An access is one of these. Rights are a sum of them in which write
+ * comes with read: 0, 1, 3, 4, 5 or 7.
  */
 #ifndef YAVRESTOM_H
 #define YAVRESTOM_H
@@ -83,7 +85,7 @@ uint32_t yavrestom_close(uint32_t *control, size_t control_words, uint32_t *fram
                          uint32_t space, uint32_t *values, size_t values_words);
 
 /* Maps `count` pages from `first` on, with the rights asked, to the frames that the map rule takes.
- * Values: blocks taken, 0. Refused: 1, 2, 5, 6, 8, 10, 11, 14. */
+ * Values: blocks taken, 0. Refused: 1, 2, 5, 6, 17, 8, 10, 11, 14. */
 uint32_t yavrestom_map(const uint32_t *control, size_t control_words, uint32_t *frames, size_t frames_words,
                        uint32_t *pages, size_t pages_words, uint32_t *ranges, size_t ranges_words,
                        uint32_t space, uint32_t first, uint32_t count, uint32_t rights,
@@ -104,7 +106,7 @@ uint32_t yavrestom_unmap(uint32_t *control, size_t control_words, uint32_t *fram
                          uint32_t space, uint32_t first, uint32_t count, uint32_t *values, size_t values_words);
 
 /* Gives `count` pages from `first` on other rights and appends a removal record for them.
- * Values: pages whose rights differ afterwards, 0. Refused: 1, 2, 5, 6, 8, 10, 12, 15. */
+ * Values: pages whose rights differ afterwards, 0. Refused: 1, 2, 5, 6, 17, 8, 10, 12, 15. */
 uint32_t yavrestom_protect(uint32_t *control, size_t control_words, const uint32_t *frames, size_t frames_words,
                            uint32_t *pages, size_t pages_words, uint32_t *ranges, size_t ranges_words,
                            uint32_t space, uint32_t first, uint32_t count, uint32_t rights,

@@ -46,7 +46,7 @@ fn invalid(what: &str) -> io::Error {
 fn rules() -> io::Result<Rules> {
     let name = std::env::var("REFERENCE_BUG").unwrap_or_default();
     Rules::with_bug(&name)
-        .ok_or_else(|| invalid("REFERENCE_BUG is 65, limit, keep, half or before"))
+        .ok_or_else(|| invalid("REFERENCE_BUG is 65, limit, keep, half, before, six or late"))
 }
 
 fn command(args: &[&str]) -> io::Result<()> {

@@ -157,6 +157,16 @@ fn span_inside(first: u32, count: u32) -> Result<(), u32> {
     Ok(())
 }
 
+/// Refusals 6, 17 and 8, in this order.
+fn rights_and_span(rights: u32, first: u32, count: u32, rules: &Rules) -> Result<(), u32> {
+    let given = rights_given(rights);
+    if rules.reserved_late && given == Err(17) {
+        span_inside(first, count)?;
+    }
+    given?;
+    span_inside(first, count)
+}
+
 fn space_open(b: &Buffers, space: u32) -> Result<(), u32> {
     if !b.is_open(space) {
         return Err(10);
@@ -236,11 +246,17 @@ pub fn close(b: &mut Buffers, space: u32) -> Outcome {
     Ok((removed, 0))
 }
 
-pub fn map(b: &mut Buffers, space: u32, first: u32, count: u32, rights: u32) -> Outcome {
+pub fn map(
+    b: &mut Buffers,
+    space: u32,
+    first: u32,
+    count: u32,
+    rights: u32,
+    rules: &Rules,
+) -> Outcome {
     let facts = judge(b)?;
     space_known(space)?;
-    rights_given(rights)?;
-    span_inside(first, count)?;
+    rights_and_span(rights, first, count, rules)?;
     space_open(b, space)?;
     let span = &b.space_pages(space)[first as usize..][..count as usize];
     if span.iter().any(|&w| w != 0) {
@@ -281,7 +297,7 @@ pub fn preview(
     rules: &Rules,
 ) -> Outcome {
     let mut after = b.clone();
-    let (blocks, _) = map(&mut after, space, first, count, rights)?;
+    let (blocks, _) = map(&mut after, space, first, count, rights, rules)?;
     let counted = if rules.ranges_before { b } else { &after };
     Ok((blocks, ranges_used(counted, space)))
 }
@@ -307,11 +323,17 @@ pub fn unmap(b: &mut Buffers, space: u32, first: u32, count: u32) -> Outcome {
     Ok((count, 0))
 }
 
-pub fn protect(b: &mut Buffers, space: u32, first: u32, count: u32, rights: u32) -> Outcome {
+pub fn protect(
+    b: &mut Buffers,
+    space: u32,
+    first: u32,
+    count: u32,
+    rights: u32,
+    rules: &Rules,
+) -> Outcome {
     judge(b)?;
     space_known(space)?;
-    rights_given(rights)?;
-    span_inside(first, count)?;
+    rights_and_span(rights, first, count, rules)?;
     space_open(b, space)?;
     span_mapped(b, space, first, count)?;
     log_lasts(b)?;

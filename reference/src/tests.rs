@@ -580,7 +580,7 @@ fn preview_is_map_on_a_copy() {
         assert!(b == lent && unit == core.units[0], "{args:?}");
 
         let [space, first, count, rights] = args;
-        let mapped = tables::map(&mut b, space, first, count, rights);
+        let mapped = tables::map(&mut b, space, first, count, rights, &rules);
         assert_eq!(tried, with_ranges(mapped, &b, space), "{args:?}");
         numbers[tried.err().unwrap_or(0) as usize] += 1;
         if let Ok((blocks, ranges)) = tried {
@@ -607,16 +607,21 @@ const RESERVED: [u32; 2] = [2, 6];
 /// Above 7; the last three bits of some are reserved rights.
 const TOO_GREAT: [u32; 6] = [8, 10, 14, 65530, 65534, u32::MAX - 1];
 
-/// The answer of a call by its number, with the core's first unit; a refused one
-/// leaves everything as it was.
-fn answer_of(core: &Core, command: u32, args: [u32; 4]) -> u32 {
+/// The outcome of a call by its number, with the core's first unit, and what it
+/// leaves; a refused one leaves everything as it was.
+fn left_by(core: &Core, command: u32, args: [u32; 4], rules: &Rules) -> (Outcome, Buffers, Unit) {
     let (mut b, mut unit) = (core.buffers.clone(), core.units[0]);
-    let outcome = state::perform(command, &mut b, &mut unit, args, &Rules::default()).unwrap();
+    let outcome = state::perform(command, &mut b, &mut unit, args, rules).unwrap();
     if outcome.is_err() {
         let same = b == core.buffers && unit == core.units[0];
         assert!(same, "{command} {args:?}");
     }
-    numbers(outcome)[0]
+    (outcome, b, unit)
+}
+
+/// Its answer by the right rules.
+fn answer_of(core: &Core, command: u32, args: [u32; 4]) -> u32 {
+    numbers(left_by(core, command, args, &Rules::default()).0)[0]
 }
 
 #[test]
@@ -865,7 +870,7 @@ fn reserved_rights_make_a_unit_malformed() {
                 if range {
                     unit.ranges[0].rights = rights;
                 }
-                assert_eq!(unit.sound(), allowed(rights), "{rights}");
+                assert_eq!(unit.sound(&Rules::default()), allowed(rights), "{rights}");
                 assert_eq!(unit_kept(&unit), allowed(rights), "{rights}");
                 let lent = unit;
                 // Of a page that neither entry has.
@@ -1164,6 +1169,7 @@ fn planted_bugs_show() {
         ("limit", Style::Sleep),
         ("keep", Style::Sleep),
         ("half", Style::Fragment),
+        ("late", Style::Mixed),
     ];
     for (name, style) in bugs {
         let rules = Rules::with_bug(name).unwrap();
@@ -1180,6 +1186,194 @@ fn planted_bugs_show() {
     let one = made_by("setup 32\nopen 0\npreview 0 4 11 3", before);
     assert!(one.ends_with("\n3 preview 0 3 0\n"));
     assert_ne!(made_by(PREVIEW_CALLS, before), PREVIEW_LINES);
+}
+
+/// A pool with ranges of 16 and 8 pages; the unit has seen both.
+const TWO_RANGES: &str = "
+    setup 64
+    open 0
+    map 0 0 16 3
+    map 0 40 8 5
+    translate 0 0 5 1
+    translate 0 0 41 1
+";
+
+/// The unit with rights 7 for 6 in its valid range entries.
+fn six_made_seven(unit: &Unit) -> Unit {
+    let mut made = *unit;
+    for e in made.ranges.iter_mut().filter(|e| e.valid == 1) {
+        if e.rights == 6 {
+            e.rights = 7;
+        }
+    }
+    made
+}
+
+#[test]
+fn bug_six_takes_range_entries_of_rights_six() {
+    let six = Rules::with_bug("six").unwrap();
+    let right = Rules::default();
+    // Rights of a page entry and of a range entry, all pairs.
+    let mut core = core_after(TWO_RANGES);
+    let any: Vec<u32> = (0..10).chain(TOO_GREAT).collect();
+    for (&page, &range) in any.iter().flat_map(|p| any.iter().map(move |r| (p, r))) {
+        core.units[0].pages[5].rights = page;
+        core.units[0].ranges[0].rights = range;
+        // Of a page that neither entry has.
+        let args = [0, 45, 1, 0];
+        let by_six = left_by(&core, 7, args, &six);
+        if allowed(page) && range == 6 {
+            assert_eq!(answer_of(&core, 7, args), 2);
+            assert_eq!(by_six.0, Ok((21, 2)), "{page}");
+        } else {
+            assert_eq!(by_six, left_by(&core, 7, args, &right), "{page} {range}");
+        }
+    }
+}
+
+#[test]
+fn bug_six_keeps_the_rest_of_the_layout() {
+    let six = Rules::with_bug("six").unwrap();
+    let mut random = Random(6);
+    // Malformed by both rules, by the right ones alone, by none.
+    let mut found = [0; 3];
+    let core = core_after(TWO_RANGES);
+    for round in 0..3000 {
+        let mut words = [0; UNIT_WORDS];
+        words.copy_from_slice(&core.units[0].to_words());
+        let entry = 320 + 6 * random.below(3) as usize;
+        if random.one_in(2) {
+            words[entry + 5] = 6;
+        }
+        let at = match random.below(3) {
+            0 => 5 * random.pick(&[5, 41]) + random.below(5) as usize,
+            1 => entry + random.below(5) as usize,
+            _ => 512 + random.below(3) as usize,
+        };
+        disturb(&mut random, &mut words[at]);
+        let unit = Unit::from_words(&words);
+        let sound = unit.sound(&six);
+        assert_eq!(sound, unit_kept(&six_made_seven(&unit)), "round {round}");
+        found[sound as usize + unit_kept(&unit) as usize] += 1;
+    }
+    assert!(found.iter().all(|&n| n > 100), "{found:?}");
+}
+
+#[test]
+fn bug_six_ends_at_the_range_entry() {
+    let six = Rules::with_bug("six").unwrap();
+    // Such an entry decides by its rights; the page entry that it installs has
+    // them too, and that makes the unit malformed.
+    let mut core = core_after(TWO_RANGES);
+    core.units[0].ranges[0].rights = 6;
+    for (access, outcome) in [(1, Err(13)), (2, Ok((7, 2))), (4, Ok((7, 2)))] {
+        let (found, b, unit) = left_by(&core, 7, [0, 7, access, 0], &six);
+        assert_eq!(found, outcome, "{access}");
+        assert_eq!(b, core.buffers);
+        assert_eq!(unit.pages[7].rights, if found.is_ok() { 6 } else { 0 });
+        assert_eq!(unit.sound(&six), found.is_err());
+    }
+    // Tables that hold rights 6 are unsound, and calls with them are refused 17.
+    let mut plain = Plain::read(&core.buffers).unwrap();
+    plain.protect(0, 0, 16, 6);
+    let mut unsound = core_after(TWO_RANGES);
+    unsound.buffers = plain.words();
+    for (command, args) in [(4, [0, 20, 1, 6]), (6, [0, 0, 1, 6]), (10, [0, 20, 1, 6])] {
+        assert_eq!(left_by(&core, command, args, &six).0, Err(17));
+        assert_eq!(left_by(&unsound, command, args, &six).0, Err(2));
+    }
+    assert_eq!(left_by(&unsound, 7, [0, 45, 1, 0], &six).0, Err(2));
+    // So no list of calls shows it.
+    for style in STYLES {
+        let bytes = generated(1, 2000, style);
+        assert_eq!(listed(&bytes), listed_by(&bytes, six));
+    }
+    assert_eq!(made_by(PREVIEW_CALLS, six), PREVIEW_LINES);
+}
+
+/// Cores in which every refusal of map and protect can be met.
+fn cores_for_refusals() -> [Core; 4] {
+    let lines = "setup 16\nopen 0\nopen 1\nmap 0 0 4 5\n";
+    let mut full = core_after(&slept(64));
+    full.buffers.control[1] = u32::MAX;
+    let mut unsound = core_after(lines);
+    unsound.buffers.pages[9] = 7;
+    let mut short = core_after(lines);
+    short.buffers.ranges.pop();
+    [core_after(lines), full, unsound, short]
+}
+
+/// Spaces, spans and rights, good ones and wrong ones, in all combinations.
+fn spans_with_rights() -> Vec<[u32; 4]> {
+    let spans = [
+        (0, 0),
+        (0, 1),
+        (3, 2),
+        (8, 13),
+        (100, 1),
+        (1023, 1),
+        (1023, 2),
+        (1024, 1),
+        (8, u32::MAX),
+        (u32::MAX, 1),
+    ];
+    let mut all = Vec::new();
+    for space in [0, 2, 4] {
+        for (first, count) in spans {
+            for rights in [0, 2, 5, 6, 7, 8, 10] {
+                all.push([space, first, count, rights]);
+            }
+        }
+    }
+    all
+}
+
+#[test]
+fn bug_late_turns_seventeen_into_eight() {
+    let late = Rules::with_bug("late").unwrap();
+    let right = Rules::default();
+    let mut turned = [0; 11];
+    let mut numbers = [0; ANSWERS];
+    for core in cores_for_refusals() {
+        for args in spans_with_rights() {
+            let [_, first, count, _] = args;
+            let wrong = count == 0 || first as u64 + count as u64 > 1024;
+            for command in 1..=10 {
+                let by_right = left_by(&core, command, args, &right);
+                let by_late = left_by(&core, command, args, &late);
+                numbers[by_right.0.err().unwrap_or(0) as usize] += 1;
+                if by_right.0 == Err(17) && wrong {
+                    assert_eq!(by_late.0, Err(8), "{command} {args:?}");
+                    turned[command as usize] += 1;
+                } else {
+                    assert!(by_late == by_right, "{command} {args:?}");
+                }
+            }
+        }
+    }
+    for command in 1..=10 {
+        let judges = [4, 6, 10].contains(&command);
+        assert_eq!(turned[command] > 0, judges, "{turned:?}");
+    }
+    for number in [0, 1, 2, 5, 6, 8, 10, 11, 12, 14, 15, 17] {
+        assert!(numbers[number] > 0, "no {number}: {numbers:?}");
+    }
+}
+
+#[test]
+fn bug_late_in_a_listing() {
+    let late = Rules::with_bug("late").unwrap();
+    for seed in 0..4 {
+        let bytes = generated(seed, 4000, Style::Mixed);
+        let (right, wrong) = (listed(&bytes), listed_by(&bytes, late));
+        assert_eq!(right.lines().count(), wrong.lines().count());
+        let lines = right.lines().zip(wrong.lines());
+        for (right, wrong) in lines.filter(|(right, wrong)| right != wrong) {
+            let start = right.strip_suffix(" 17 0 0").unwrap();
+            assert!(start.ends_with(" 4") || start.ends_with(" 6"));
+            assert_eq!(wrong, format!("{start} 8 0 0"));
+        }
+    }
 }
 
 // Against the rules written down slowly.
@@ -1362,6 +1556,7 @@ fn soundness_is_exact() {
 
 #[test]
 fn unit_layout_is_exact() {
+    let rules = Rules::default();
     let mut random = Random(5);
     let mut kept = 0;
     let mut core = Core::new(Rules::default());
@@ -1372,7 +1567,7 @@ fn unit_layout_is_exact() {
         let mut words = [0; UNIT_WORDS];
         words.copy_from_slice(&core.units[0].to_words());
         assert_eq!(Unit::from_words(&words), core.units[0]);
-        assert!(core.units[0].sound());
+        assert!(core.units[0].sound(&rules));
         for _ in 0..random.among(1, 2) {
             let at = match random.below(3) {
                 0 => random.below(320),
@@ -1382,8 +1577,8 @@ fn unit_layout_is_exact() {
             disturb(&mut random, &mut words[at]);
         }
         let unit = Unit::from_words(&words);
-        assert_eq!(unit.sound(), unit_kept(&unit), "round {round}");
-        kept += unit.sound() as u32;
+        assert_eq!(unit.sound(&rules), unit_kept(&unit), "round {round}");
+        kept += unit.sound(&rules) as u32;
     }
     assert!((100..2900).contains(&kept), "{kept}");
 }
@@ -1400,8 +1595,9 @@ fn range_entry_edges() {
             offset,
             rights: 7,
         };
-        assert_eq!(unit.sound(), unit_kept(&unit));
-        unit.sound()
+        let sound = unit.sound(&Rules::default());
+        assert_eq!(sound, unit_kept(&unit));
+        sound
     };
     let minus = |n: u32| 0u32.wrapping_sub(n);
     assert!(kept(0, 1024, 3072));
@@ -1509,31 +1705,31 @@ fn unit_refusals() {
 
 #[test]
 fn the_log_ends() {
+    let rules = Rules::default();
     let mut b = core_after(&slept(64)).buffers;
     b.control[1] = u32::MAX - 1;
-    assert_eq!(tables::protect(&mut b, 0, 100, 1, 7), Ok((1, 0)));
+    assert_eq!(tables::protect(&mut b, 0, 100, 1, 7, &rules), Ok((1, 0)));
     assert_eq!(b.removals(), u32::MAX);
     let at = 3 + 3 * 63;
     assert_eq!(b.control[at..at + 3], [0, 100, 1]);
     let lent = b.clone();
-    assert_eq!(tables::protect(&mut b, 0, 100, 1, 1), Err(15));
+    assert_eq!(tables::protect(&mut b, 0, 100, 1, 1, &rules), Err(15));
     assert_eq!(tables::unmap(&mut b, 0, 100, 1), Err(15));
     assert_eq!(tables::close(&mut b, 0), Err(15));
     assert_eq!(tables::unmap(&mut b, 0, 101, 1), Err(12));
     assert_eq!(tables::close(&mut b, 1), Err(10));
     assert_eq!(b, lent);
-    assert_eq!(tables::map(&mut b, 0, 101, 1, 1), Ok((1, 0)));
+    assert_eq!(tables::map(&mut b, 0, 101, 1, 1, &rules), Ok((1, 0)));
     // A unit far behind, and one that has seen nearly all.
     let mut unit = Unit::fresh();
-    let rules = Rules::default();
     assert_eq!(unit::translate(&b, &mut unit, 0, 0, 1, &rules), Ok((0, 3)));
     assert_eq!(unit.seen, u32::MAX);
     unit.seen = u32::MAX - 64;
     assert_eq!(unit::translate(&b, &mut unit, 0, 0, 1, &rules), Ok((0, 1)));
     // A span that would wrap.
     let mut c = b.clone();
-    assert_eq!(tables::map(&mut c, 0, u32::MAX, 2, 1), Err(8));
-    assert_eq!(tables::map(&mut c, 0, 2, u32::MAX, 1), Err(8));
+    assert_eq!(tables::map(&mut c, 0, u32::MAX, 2, 1, &rules), Err(8));
+    assert_eq!(tables::map(&mut c, 0, 2, u32::MAX, 1, &rules), Err(8));
     assert_eq!(b, c);
 }
 

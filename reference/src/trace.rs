@@ -155,9 +155,9 @@ impl Core {
             }
             OPEN => tables::open(b, a0),
             CLOSE => tables::close(b, a0),
-            MAP => tables::map(b, a0, a1, a2, a3),
+            MAP => tables::map(b, a0, a1, a2, a3, &self.rules),
             UNMAP => tables::unmap(b, a0, a1, a2),
-            PROTECT => tables::protect(b, a0, a1, a2, a3),
+            PROTECT => tables::protect(b, a0, a1, a2, a3, &self.rules),
             TRANSLATE if a0 > 1 => Err(16),
             TRANSLATE => unit::translate(b, &mut self.units[a0 as usize], a1, a2, a3, &self.rules),
             COVERAGE => tables::coverage(b, a0, &self.rules),

@@ -38,8 +38,8 @@ pub struct Unit {
     pub seen: u32,
 }
 
-/// How translate, coverage and preview go; the default is right, the rest are
-/// planted bugs.
+/// How map, protect, translate, coverage and preview go; the default is right,
+/// the rest are planted bugs.
 #[derive(Clone, Copy, PartialEq, Eq, Debug)]
 pub struct Rules {
     /// The most unseen records that are applied singly.
@@ -52,6 +52,10 @@ pub struct Rules {
     pub halves_up: bool,
     /// A preview counts the ranges as they are before the map.
     pub ranges_before: bool,
+    /// A unit's range entry may have rights 6.
+    pub six_in_ranges: bool,
+    /// Refusal 17 is judged after 8.
+    pub reserved_late: bool,
 }
 
 impl Default for Rules {
@@ -62,6 +66,8 @@ impl Default for Rules {
             keep: false,
             halves_up: false,
             ranges_before: false,
+            six_in_ranges: false,
+            reserved_late: false,
         }
     }
 }
@@ -77,6 +83,8 @@ impl Rules {
             "keep" => rules.keep = true,
             "half" => rules.halves_up = true,
             "before" => rules.ranges_before = true,
+            "six" => rules.six_in_ranges = true,
+            "late" => rules.reserved_late = true,
             _ => return None,
         }
         Some(rules)
@@ -98,13 +106,17 @@ impl PageEntry {
 }
 
 impl RangeEntry {
-    fn sound(&self) -> bool {
+    fn rights_sound(&self, rules: &Rules) -> bool {
+        rights_allowed(self.rights) || rules.six_in_ranges && self.rights == 6
+    }
+
+    fn sound(&self, rules: &Rules) -> bool {
         if self.valid == 0 {
             return *self == RangeEntry::default();
         }
         if self.valid != 1
             || self.space > 3
-            || !rights_allowed(self.rights)
+            || !self.rights_sound(rules)
             || self.limit > 1024
             || self.base >= self.limit
         {
@@ -167,7 +179,7 @@ impl Unit {
         words
     }
 
-    pub fn sound(&self) -> bool {
+    pub fn sound(&self, rules: &Rules) -> bool {
         let last_right = match self.last {
             0..=31 => self.ranges[self.last as usize].valid == 1,
             last => last == NONE,
@@ -175,7 +187,7 @@ impl Unit {
         last_right
             && self.next <= 31
             && self.pages.iter().enumerate().all(|(i, e)| e.sound(i))
-            && self.ranges.iter().all(|e| e.sound())
+            && self.ranges.iter().all(|e| e.sound(rules))
     }
 
     /// Brings the unit up to the log's end.
@@ -308,7 +320,7 @@ pub fn translate(
     rules: &Rules,
 ) -> Outcome {
     tables::judge(b)?;
-    if !unit.sound() {
+    if !unit.sound(rules) {
         return Err(2);
     }
     if unit.seen > b.removals() {

@@ -125,6 +125,7 @@ fn planted_bugs_turn_the_listing() {
         ("limit", "sleep"),
         ("keep", "sleep"),
         ("half", "fragment"),
+        ("late", "mixed"),
     ];
     for (bug, style) in bugs {
         let records = good(&["gen", "2", "4000", style], b"");
@@ -158,8 +159,22 @@ fn preview_in_a_text() {
 }
 
 #[test]
-fn planted_bug_turns_the_state() {
-    // A pool of 8 frames, space 0 open and empty, one record appended.
+fn bug_late_in_a_text() {
+    let calls = b"setup 32\nopen 0\nmap 0 1023 2 2\nprotect 0 0 0 6\npreview 0 1023 2 2
+map 1 0 1 2\nprotect 0 0 0 10\n";
+    let answers = |bug: Option<&str>| {
+        let printed = String::from_utf8(reference(&["calls"], bug, calls).stdout).unwrap();
+        let rows = printed.lines().skip(3);
+        rows.map(|l| l.split(' ').nth(2).unwrap().to_string())
+            .collect::<Vec<_>>()
+    };
+    assert_eq!(answers(None), ["17", "17", "17", "17", "6"]);
+    assert_eq!(answers(Some("late")), ["8", "8", "8", "17", "6"]);
+}
+
+/// A translation of page 5 with this unit, as words lent. The pool has 8 frames,
+/// space 0 is open and empty, and one record is appended.
+fn translation_by(unit: &[u32]) -> Vec<u8> {
     let mut words: Vec<u32> = vec![7];
     let mut control = vec![0; 195];
     control[..3].copy_from_slice(&[8, 1, 1]);
@@ -171,11 +186,16 @@ fn planted_bug_turns_the_state() {
         words.push(buffer.len() as u32);
         words.extend(buffer);
     }
-    let mut unit = vec![0; 515];
-    unit[512] = 32;
     words.extend(unit);
     words.extend([0, 5, 1, 0]);
-    let bytes: Vec<u8> = words.iter().flat_map(|w| w.to_le_bytes()).collect();
+    words.iter().flat_map(|w| w.to_le_bytes()).collect()
+}
+
+#[test]
+fn planted_bug_turns_the_state() {
+    let mut unit = vec![0; 515];
+    unit[512] = 32;
+    let bytes = translation_by(&unit);
     let right = good(&["state"], &bytes);
     let wrong = reference(&["state"], Some("keep"), &bytes).stdout;
     assert_eq!(right[..12], wrong[..12]);
@@ -187,6 +207,25 @@ fn planted_bug_turns_the_state() {
         (&right[end..], &wrong[end..]),
         (&[0; 4][..], &[1, 0, 0, 0][..])
     );
+}
+
+#[test]
+fn bug_six_in_a_lent_unit() {
+    // The first range entry has page 100, frame 100; page 5 is not mapped.
+    let answers = |rights: u32| {
+        let mut unit = vec![0; 515];
+        unit[320..326].copy_from_slice(&[1, 0, 100, 101, 0, rights]);
+        unit[512] = 32;
+        let bytes = translation_by(&unit);
+        [None, Some("six")].map(|bug| reference(&["state"], bug, &bytes).stdout[0])
+    };
+    for rights in [0, 1, 3, 4, 5, 7] {
+        assert_eq!(answers(rights), [12, 12]);
+    }
+    for rights in [2, 8, 14] {
+        assert_eq!(answers(rights), [2, 2]);
+    }
+    assert_eq!(answers(6), [2, 12]);
 }
 
 #[test]

@@ -1,6 +1,7 @@
 //! Random lists of calls: after each call every word of the buffers and of the units is the same as the second program's.
 use crate::kernel::*;
 use crate::random::Random;
+use crate::rights::RESERVED;
 use crate::second::Second;
 use std::cmp::Ordering;
 use std::collections::BTreeMap;
@@ -93,10 +94,10 @@ pub fn some_call(r: &mut Random, world: &World) -> Call {
         3..=8 => 8 + r.below(16) as u32,
         _ => 1 + r.below(9) as u32,
     };
-    let rights = if r.one_in(40) {
-        8 + r.below(3) as u32
-    } else {
-        r.pick(&[3, 3, 3, 1, 7, 5, 0, 2])
+    let rights = match r.below(40) {
+        0 => 8 + r.below(3) as u32,
+        1 => r.pick(&RESERVED),
+        _ => r.pick(&[3, 3, 3, 1, 7, 5, 0, 4]),
     };
     let access = if r.one_in(30) { r.below(9) as u32 } else { r.pick(&[1, 1, 1, 2, 4]) };
     let (kind, arguments) = match r.below(41) {
@@ -135,11 +136,13 @@ fn half(inside: u32, mapped: u32) -> Option<&'static str> {
     }
 }
 
-/// Counts the cases of interest, of coverage and of previews. The world is that after the call.
+/// Counts the cases of interest, of coverage, of reserved rights and of previews. The world is that after the call.
 fn note_cases(world: &World, call: Call, answer: Answer, seen: &mut Seen) {
     let space = call.arguments[0];
     match (call.kind, answer.number) {
         (COVERAGE, 0) => note_half(world, space, seen),
+        (MAP, 17) => seen.note("map_17"),
+        (PROTECT, 17) => seen.note("protect_17"),
         (PREVIEW, number) => {
             seen.note(format!("preview_{number}"));
             if number == 0 {
@@ -347,6 +350,9 @@ pub fn compare(lists: u64, first: u64) -> bool {
         "answer_12",
         "answer_13",
         "answer_14",
+        "answer_17",
+        "map_17",
+        "protect_17",
         "way_1",
         "way_2",
         "way_3",
@@ -358,6 +364,7 @@ pub fn compare(lists: u64, first: u64) -> bool {
         "preview_0",
         "preview_5",
         "preview_6",
+        "preview_17",
         "preview_8",
         "preview_10",
         "preview_11",

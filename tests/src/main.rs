@@ -4,6 +4,7 @@ mod kernel;
 mod listing;
 mod lists;
 mod random;
+mod rights;
 mod runs;
 mod second;
 mod states;
@@ -38,7 +39,7 @@ fn main() {
 fn planted() -> bool {
     let me = std::env::current_exe().unwrap();
     let mut fine = true;
-    for bug in ["65", "limit", "keep", "half", "before"] {
+    for bug in ["65", "limit", "keep", "half", "before", "six", "late"] {
         let red = ["lists", "damaged"].iter().any(|what| {
             let count = if *what == "lists" { "60" } else { "20000" };
             let out = std::process::Command::new(&me).arg(what).arg(count).env("REFERENCE_BUG", bug).output().unwrap();

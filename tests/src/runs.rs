@@ -1,6 +1,7 @@
 //! Tables that are right but for one run, whose range entry and range bits say something other than its pages. Each is unsound.
 use crate::kernel::*;
 use crate::random::Random;
+use crate::rights::ALLOWED;
 
 const RANGE_BIT: u32 = 32_768;
 const RIGHTS: u32 = 4_096;
@@ -61,10 +62,11 @@ fn unmap_unlisted(w: &mut World, space: usize, first: usize, count: usize) -> bo
     answer.number == 0
 }
 
-/// Gives a page other rights, by its word alone.
+/// Gives a page other rights that are allowed, by its word alone.
 fn change_rights(r: &mut Random, word: &mut u32) {
     let rights = *word / RIGHTS % 8;
-    *word = *word - RIGHTS * rights + RIGHTS * ((rights + 1 + r.below(7) as u32) % 8);
+    let others: Vec<u32> = ALLOWED.into_iter().filter(|other| *other != rights).collect();
+    *word = *word - RIGHTS * rights + RIGHTS * r.pick(&others);
 }
 
 /// Damages one range and says which of `KINDS` was done, or nothing where no range can be damaged.

@@ -2,6 +2,7 @@
 use crate::kernel::*;
 use crate::lists::{calls_to_half, some_call, step, Seen};
 use crate::random::Random;
+use crate::rights::{self, damage_rights, foreign_page_entry, foreign_range_entry};
 use crate::runs::{damage_run, KINDS};
 use crate::second::Second;
 
@@ -119,10 +120,8 @@ fn damage_field(r: &mut Random, w: &mut World) -> String {
             "next_place"
         }
         5 | 6 => {
-            // a page entry that is well formed, and no list of calls made it
-            let page = r.below(1024) as u32;
-            let e = 5 * (page % 64) as usize;
-            w.unit[e..e + 5].copy_from_slice(&[1, r.below(4) as u32, page, r.below(4096) as u32, r.below(8) as u32]);
+            let rights = r.pick(&rights::ALLOWED);
+            foreign_page_entry(r, w, rights);
             "foreign_page_entry"
         }
         7 => {
@@ -138,15 +137,9 @@ fn damage_field(r: &mut Random, w: &mut World) -> String {
             "range_entry_field"
         }
         _ => {
-            // a range entry that is well formed, may overlap others and lack rights
-            let e = 320 + 6 * r.below(32) as usize;
-            let base = r.below(1000) as u32;
-            let limit = base + 1 + r.below(24) as u32;
-            let frame = r.below(4000) as u32;
-            w.unit[e..e + 6].copy_from_slice(&[1, r.below(3) as u32, base, limit, frame.wrapping_sub(base), r.below(8) as u32]);
-            if r.one_in(2) {
-                w.unit[LAST] = ((e - 320) / 6) as u32;
-            }
+            // it may lack rights
+            let rights = r.pick(&rights::ALLOWED);
+            foreign_range_entry(r, w, rights);
             "foreign_range_entry"
         }
     };
@@ -154,11 +147,21 @@ fn damage_field(r: &mut Random, w: &mut World) -> String {
 }
 
 fn damage(r: &mut Random, w: &mut World) -> String {
-    match r.below(5) {
+    match r.below(6) {
         0 | 1 => damage_words(r, w),
         2 | 3 => damage_field(r, w),
-        _ => damage_run(r, w).unwrap_or_else(|| damage_words(r, w)),
+        4 => damage_run(r, w).unwrap_or_else(|| damage_words(r, w)),
+        _ => damage_rights(r, w).unwrap_or_else(|| damage_words(r, w)),
     }
+}
+
+/// Whether a call has to answer 2 after this damage alone, whatever the second program says: each call but the set-ups where the
+/// tables are unsound, a translation where the unit is malformed.
+fn must_answer_two(what: &str, kind: u32) -> bool {
+    if KINDS.contains(&what) || rights::is_one(what, &rights::IN_TABLES) {
+        return ![SET_UP_POOL, SET_UP_UNIT].contains(&kind);
+    }
+    rights::is_one(what, &rights::IN_UNIT) && kind == TRANSLATE
 }
 
 /// A unit, or a place for the values, of another length: 1, and neither buffer nor unit is altered. A place of two
@@ -211,8 +214,6 @@ pub fn compare(inputs: u64, first: u64) -> bool {
         if twice {
             what = damage(&mut r, &mut world);
         }
-        // a second damage may mend the first, or change a length
-        let wrong_run = KINDS.contains(&what.as_str()) && !twice;
         let mut call = some_call(&mut r, &world);
         if r.one_in(3) {
             call = Call {
@@ -228,16 +229,18 @@ pub fn compare(inputs: u64, first: u64) -> bool {
                 }
             }
         }
+        // a second damage may mend the first, or change a length
+        let two = !twice && must_answer_two(&what, call.kind);
         match step(&mut second, &mut world, call, &mut seen) {
-            Ok(answer) if wrong_run && answer.number != 2 && ![SET_UP_POOL, SET_UP_UNIT].contains(&call.kind) => {
+            Ok(answer) if two && answer.number != 2 => {
                 println!(
-                    "input of seed {seed} ({what}): both answer {}, and the tables are unsound\n  again: compare damaged 1 {seed}",
+                    "input of seed {seed} ({what}): both answer {}, not 2\n  again: compare damaged 1 {seed}",
                     answer.number
                 );
                 return false;
             }
             Ok(answer) => {
-                if wrong_run && answer.number == 2 {
+                if two {
                     seen.note(format!("{what}_found"));
                 }
                 seen.note(what);
@@ -276,10 +279,13 @@ fn must_be_reached() -> Vec<String> {
     );
     must.extend(["foreign_page_entry", "foreign_range_entry"].map(String::from));
     must.extend(KINDS.map(|kind| format!("{kind}_found")));
-    must.extend([0, 1, 2, 3, 12, 13, 15].map(|n| format!("answer_{n}")));
+    for kind in rights::IN_TABLES.iter().chain(&rights::IN_UNIT) {
+        must.extend(rights::RESERVED.map(|rights| format!("{}_found", rights::named(kind, rights))));
+    }
+    must.extend([0, 1, 2, 3, 12, 13, 15, 17].map(|n| format!("answer_{n}")));
     must.extend([1, 2, 3].map(|n| format!("way_{n}")));
     must.extend(["half_down", "half_up"].map(String::from));
-    must.extend([0, 1, 2, 5, 6, 8, 10, 11, 14].map(|n| format!("preview_{n}")));
+    must.extend([0, 1, 2, 5, 6, 17, 8, 10, 11, 14].map(|n| format!("preview_{n}")));
     must.extend(["preview_adds", "preview_same_ranges", "preview_several_blocks"].map(String::from));
     must
 }

@@ -1,6 +1,6 @@
 -- The walk that checks range bits and range words.
 use mathlib.Core.Path.{_≡_, refl, ap, ap₂, _∙_, sym}
-use mathlib.Core.Bool.{Bool, true, false, Bool·beq, _&&_, not}
+use mathlib.Core.Bool.{Bool, true, false, Bool·beq, not}
 use mathlib.Core.List.{List, [], _∷_, _++_, append-assoc, append-nil}
 use Prim.Native.Nat.{ℕ, suc, _+_, _-_, _<_, _≤_}
 use native.Mathlib.Nat.{add-zero}
@@ -11,7 +11,7 @@ use lib.ListN.{length, getD, drop, take, replicate, length-replicate, length-dro
 use lib.Seq.{drop-cons, ext-getD, getD-drop, take-add, take-at, drop-at, length-take-le, getD-append-add}
 use borrow.Author.Tests.{le-leb, lt-leb, eqb-true, eqb-false, eq-eqb, not-true, not-false}
 use Rattle.words.specs.Tables.{part}
-use Rattle.words.specs.Searches.{allFrom, every}
+use Rattle.words.specs.Searches.{allFrom}
 use Rattle.words.specs.Inner.{sameIn}
 use Rattle.words.proofs.SearchLaws.{allFrom-at, some-fails, every-at, at-every}
 use Rattle.words.specs.Wrapping.{wrapSub}

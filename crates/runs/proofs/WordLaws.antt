@@ -59,10 +59,6 @@ pub frame-lt : (w : ℕ) → frameIn w < 4096
 unfolding frameIn
 frame-lt w = omega arith
 
-pub rights-lt : (w : ℕ) → rightsIn w < 8
-unfolding rightsIn
-rights-lt w = omega arith
-
 pub record Joins (v w : ℕ) : Type 0 where
   pub this : mapped v ≡ true
   pub next : mapped w ≡ true
@@ -100,7 +96,7 @@ pub bit-none : (b : Bool) (w : ℕ) → mapped w ≡ false → bitWord b w ≡ 0
 unfolding bitWord
 bit-none b w e = rw (e, bitWord)
 
-pub bit-mapped : (b : Bool) (w : ℕ) → mapped w ≡ true → bitWord b w ≡ pageWord b (rightsIn w) (frameIn w)
+bit-mapped : (b : Bool) (w : ℕ) → mapped w ≡ true → bitWord b w ≡ pageWord b (rightsIn w) (frameIn w)
 unfolding bitWord
 bit-mapped b w m = rw (m, bitWord)
 
@@ -190,7 +186,7 @@ pub mapped-word : (w : ℕ) → mapped w ≡ true → allowedRights (rightsIn w)
 unfolding isPageWord
 mapped-word w m r = by-test (eqb w 0) (λ t. rw t refl) (λ f. rw (f, m, r) refl)
 
-pub word-says : {P : Type 0} (w : ℕ) → isPageWord w ≡ true → (w ≡ 0 → P) → (mapped w ≡ true → allowedRights (rightsIn w) ≡ true → P) → P
+word-says : {P : Type 0} (w : ℕ) → isPageWord w ≡ true → (w ≡ 0 → P) → (mapped w ≡ true → allowedRights (rightsIn w) ≡ true → P) → P
 unfolding isPageWord
 word-says w t z m =
     by-test (eqb w 0) (λ e. z (eqb-true _ _ e)) (λ f.
