@@ -37,6 +37,9 @@ pub const PREVIEW: u32 = 10;
 pub const CONTROL: usize = 195;
 pub const RECORDS: usize = 3;
 
+/// What rights count in a page word.
+pub const RIGHTS: u32 = 4_096;
+
 pub const UNIT: usize = 515;
 pub const LAST: usize = 512;
 pub const NEXT: usize = 513;

@@ -141,12 +141,15 @@ fn note_cases(world: &World, call: Call, answer: Answer, seen: &mut Seen) {
     let space = call.arguments[0];
     match (call.kind, answer.number) {
         (COVERAGE, 0) => note_half(world, space, seen),
-        (MAP, 17) => seen.note("map_17"),
-        (PROTECT, 17) => seen.note("protect_17"),
+        (MAP, 17) => seen.note(format!("map_17_by_{}", call.arguments[3])),
+        (PROTECT, 17) => seen.note(format!("protect_17_by_{}", call.arguments[3])),
         (PREVIEW, number) => {
             seen.note(format!("preview_{number}"));
             if number == 0 {
                 note_accepted_preview(world, space, answer, seen);
+            }
+            if number == 17 {
+                seen.note(format!("preview_17_by_{}", call.arguments[3]));
             }
         }
         _ => {}
@@ -351,8 +354,12 @@ pub fn compare(lists: u64, first: u64) -> bool {
         "answer_13",
         "answer_14",
         "answer_17",
-        "map_17",
-        "protect_17",
+        "map_17_by_2",
+        "map_17_by_6",
+        "protect_17_by_2",
+        "protect_17_by_6",
+        "preview_17_by_2",
+        "preview_17_by_6",
         "way_1",
         "way_2",
         "way_3",
@@ -364,7 +371,6 @@ pub fn compare(lists: u64, first: u64) -> bool {
         "preview_0",
         "preview_5",
         "preview_6",
-        "preview_17",
         "preview_8",
         "preview_10",
         "preview_11",

@@ -5,11 +5,9 @@ use crate::random::Random;
 pub const ALLOWED: [u32; 6] = [0, 1, 3, 4, 5, 7];
 pub const RESERVED: [u32; 2] = [2, 6];
 
-const RIGHTS: u32 = 4_096;
-
-/// In the tables: the words of a run too short for a range; the words and the entry of a range; the entry alone. In the unit: a
-/// page entry, a range entry.
-pub const IN_TABLES: [&str; 3] = ["reserved_page_words", "reserved_range", "reserved_entry_of_table"];
+/// In the tables: the words of a run too short for a range; the words and the entry of a range; one word of a range; the entry
+/// alone. In the unit: a page entry, a range entry.
+pub const IN_TABLES: [&str; 4] = ["reserved_page_words", "reserved_range", "reserved_page_of_range", "reserved_entry_of_table"];
 pub const IN_UNIT: [&str; 2] = ["reserved_page_entry", "reserved_range_entry"];
 
 /// The damage of a kind with these rights, by name.
@@ -44,9 +42,13 @@ fn run_of(pages: &[u32], page: usize) -> std::ops::Range<usize> {
     base..limit
 }
 
+fn give(word: &mut u32, rights: u32) {
+    *word = *word - RIGHTS * (*word / RIGHTS % 8) + RIGHTS * rights;
+}
+
 /// Gives a run the rights, and its range entry too where it has one: nothing else of the tables is wrong then, for no neighbour
-/// has such rights.
-fn damage_run(r: &mut Random, w: &mut World, rights: u32) -> Option<&'static str> {
+/// has such rights. Or one word of a range alone.
+fn damage_pages(r: &mut Random, w: &mut World, rights: u32) -> Option<&'static str> {
     let mapped: Vec<usize> = (0..4096).filter(|i| is_mapped(w.pages[*i])).collect();
     if mapped.is_empty() {
         return None;
@@ -55,8 +57,12 @@ fn damage_run(r: &mut Random, w: &mut World, rights: u32) -> Option<&'static str
     let (space, page) = (at / 1024, at % 1024);
     let pages = &mut w.pages[1024 * space..][..1024];
     let run = run_of(pages, page);
+    if run.len() >= 8 && r.one_in(3) {
+        give(&mut pages[page], rights);
+        return Some(IN_TABLES[2]);
+    }
     for word in &mut pages[run.clone()] {
-        *word = *word - RIGHTS * (*word / RIGHTS % 8) + RIGHTS * rights;
+        give(word, rights);
     }
     if run.len() < 8 {
         return Some(IN_TABLES[0]);
@@ -73,7 +79,7 @@ fn damage_entry_of_table(r: &mut Random, w: &mut World, rights: u32) -> Option<&
         return None;
     }
     w.ranges[r.pick(&used) + 3] = rights;
-    Some(IN_TABLES[2])
+    Some(IN_TABLES[3])
 }
 
 /// A page entry at its place, well formed if its rights are allowed; no list of calls made it.
@@ -102,7 +108,7 @@ pub fn damage_rights(r: &mut Random, w: &mut World) -> Option<String> {
     }
     let rights = r.pick(&RESERVED);
     let kind = match r.below(5) {
-        0 | 1 => damage_run(r, w, rights)?,
+        0 | 1 => damage_pages(r, w, rights)?,
         2 => damage_entry_of_table(r, w, rights)?,
         3 => {
             foreign_page_entry(r, w, rights);

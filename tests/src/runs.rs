@@ -4,7 +4,6 @@ use crate::random::Random;
 use crate::rights::ALLOWED;
 
 const RANGE_BIT: u32 = 32_768;
-const RIGHTS: u32 = 4_096;
 
 pub const KINDS: [&str; 6] = [
     "run_over_other_rights",

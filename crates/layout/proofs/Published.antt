@@ -12,8 +12,8 @@ pub use Rattle.control.proofs.ControlLaws.{appended-length, appended-pool, appe
 pub use Rattle.control.proofs.MaskLaws.{cleared-here}
 pub use Rattle.layout.proofs.CallLaws.{open-by}
 -- page words: what one says, whatever its range bit; the rights of one of the layout, and that allowed rights are not reserved
-pub use Rattle.runs.proofs.WordLaws.{Like, Says, made-word, zero-unmapped, word-rights, allowed-low, not-reserved}
-pub use Rattle.layout.proofs.RightsLaws.{none-reserved}
+pub use Rattle.runs.proofs.WordLaws.{Like, Says, made-word, zero-unmapped, word-rights, allowed-low, not-reserved, zero-unreserved}
+pub use Rattle.layout.proofs.RightsLaws.{reserved-unsound}
 pub use Rattle.layout.proofs.PlainLaws.{like-word, pages-of}
 -- the plain state: sound tables are those of a valid one, and each accepted call leaves a valid one
 pub use Rattle.layout.proofs.PlainLaws.{sound-valid, valid-sound, valid-lengths}

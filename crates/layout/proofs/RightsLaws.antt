@@ -13,14 +13,14 @@ use Rattle.words.proofs.Cases.{by-test, and-true, true-false}
 use Rattle.words.proofs.RefusalLaws.{refused, passed}
 use Rattle.words.proofs.RowLaws.{promised-number}
 use Rattle.runs.specs.PageWords.{reservedRights, NotReserved, mapped, rightsIn}
-use Rattle.runs.proofs.WordLaws.{reserved-is, is-reserved, reserved-low, not-reserved, word-rights}
+use Rattle.runs.proofs.WordLaws.{reserved-is, is-reserved, reserved-low, not-reserved, zero-unreserved, word-rights}
 use Rattle.runs.proofs.CheckLaws.{lawful-at}
 use Rattle.runs.proofs.BaseLimitLaws.{entry-rights}
 use Rattle.runs.proofs.ExactLaws.{ranges-exactly}
 use Rattle.layout.specs.Tables.{Tables, rightLengths, spacePages}
 use Rattle.layout.specs.Sound.{sound}
-use Rattle.layout.specs.Calls.{wrongLength, unsound, noSuchSpace, wrongRights, rightsReserved, sizedRow, row}
-use Rattle.layout.specs.Statements.{by-map, by-protect, by-preview, RightsJudged, RightsRefused, NoneReserved, ReservedUnsound}
+use Rattle.layout.specs.Calls.{wrongLength, unsound, noSuchSpace, wrongRights, writeWithoutRead, sizedRow, row}
+use Rattle.layout.specs.Statements.{by-map, by-protect, by-preview, RightsJudged, RightsRefused, ReservedUnsound}
 use Rattle.layout.proofs.SoundLaws.{lengths-at, pages-long, ranges-long, sound-parts}
 
 -- n is none of the numbers
@@ -40,7 +40,7 @@ lacking n (r ∷ rs) nz t e =
 
 -- 6 and 17 are judged before refusals of other numbers
 judged : (rights : ℕ) (more : List (Refusal ℕ)) → lacks 6 (numbers more) ≡ true → lacks 17 (numbers more) ≡ true
-    → (n : ℕ) → n ≡ decide (wrongRights rights ∷ rightsReserved rights ∷ more) 0 → RightsJudged rights n
+    → (n : ℕ) → n ≡ decide (wrongRights rights ∷ writeWithoutRead rights ∷ more) 0 → RightsJudged rights n
 judged rights more a b n e =
     by-test (ltb 7 rights)
     (λ t.
@@ -71,17 +71,14 @@ rights-refused c s rights by-map T o T′ d l t h = judged rights _ refl refl (o
 rights-refused c s rights by-protect T o T′ d l t h = judged rights _ refl refl (o .number) (promised-number (row T c) T o T′ d ∙ host-passed T l t s h _)
 rights-refused c s rights by-preview T o T′ d l t h = judged rights _ refl refl (o .number) (promised-number (row T c) T o T′ d ∙ host-passed T l t s h _)
 
-pub none-reserved : (T : Tables) → rightLengths T ≡ true → sound T ≡ true → NoneReserved T
-none-reserved T l t = record {
+pub reserved-unsound : ReservedUnsound
+unfolding ReservedUnsound
+reserved-unsound T l t = record {
   words = λ s p h hp m. page s h p (omega (arith, pages-long T (lengths-at T l) s h)) m;
   entries = λ s j h hj.
       let w = ranges-exactly _ _ (pages-long T (lengths-at T l) s h) (ranges-long T (lengths-at T l) s h) .0 (sound-parts T t .spaces s h) in
-      rw (w .split) (entry-rights (spacePages (T .pages) s) NotReserved (λ e. omega arith, λ e. omega arith) (page s h) 0 (w .unused) (w .used) (w .listed) j);
+      rw (w .split) (entry-rights (spacePages (T .pages) s) NotReserved zero-unreserved (page s h) 0 (w .unused) (w .used) (w .listed) j);
 }
   where
     page : (s : ℕ) → s ≤ 3 → (p : ℕ) → p < length (spacePages (T .pages) s) → mapped (getD (spacePages (T .pages) s) p 0) ≡ true → NotReserved (rightsIn (getD (spacePages (T .pages) s) p 0))
     page s h p lt m = not-reserved _ (word-rights _ (lawful-at _ _ (sound-parts T t .spaces s h) .layout p lt) m)
-
-pub reserved-unsound : ReservedUnsound
-unfolding ReservedUnsound
-reserved-unsound = none-reserved

@@ -47,7 +47,7 @@ fn try_map(frames: &[u32], part: &[u32], pool: u32, first: Page, n: u32, rights:
     preview_space(frames, &mut mapped, pool, first, n, rights)
 }
 
-// What a map of the span would answer; second value: the space's ranges afterwards. Refused: 1, 2, 5, 6, 8, 10, 11, 14.
+// What a map of the span would answer; second value: the space's ranges afterwards. Refused: 1, 2, 5, 6, 17, 8, 10, 11, 14.
 pub fn preview(
     control: &[u32],
     frames: &[u32],

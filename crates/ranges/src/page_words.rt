@@ -1,4 +1,4 @@
-// Page words, rights and OFFSETs. Only here a frame number comes out of a page word, or out of a page number and an OFFSET, and only here rights are tested.
+// Page words, rights and OFFSETs. Only here a frame number comes out of a page word, or out of a page number and an OFFSET; and only here it is said which rights are allowed.
 ghost use mathlib.Core.Path.{_≡_};
 ghost use mathlib.Core.Bool.{true};
 ghost use Prim.Native.Nat.{_+_, _*_, _≤_, _<_};
@@ -18,7 +18,7 @@ const MAPPED_IN_RANGE: u32 = 98304;
 
 const RIGHTS: u32 = 4096;
 
-// Rights are 0 to 7; a page that is written but not read is reserved: write alone, and write and execute.
+// Rights are at most 7, and write without read is reserved: write alone, and write and execute.
 const LARGEST_RIGHTS: u32 = 7;
 
 const WRITE: u32 = 2;

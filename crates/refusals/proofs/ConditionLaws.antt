@@ -21,7 +21,7 @@ use Rattle.control.specs.Control.{poolSize}
 use Rattle.layout.specs.declared.TableCall.the-variants.{Open, Close, Map, Unmap, Protect, Coverage}
 use Rattle.layout.specs.Tables.{Tables}
 use Rattle.layout.specs.Sound.{sound}
-use Rattle.layout.specs.Calls.{noSuchSpace, wrongRights, rightsReserved, alreadyOpen, isSpan, mappedAt, alreadyMapped, notMapped, nothingMapped, tooFewFrames, noNumberLeft, sizedRow, row}
+use Rattle.layout.specs.Calls.{noSuchSpace, wrongRights, writeWithoutRead, alreadyOpen, isSpan, mappedAt, alreadyMapped, notMapped, nothingMapped, tooFewFrames, noNumberLeft, sizedRow, row}
 use Rattle.layout.proofs.SoundLaws.{Lengths, lengths-at, sound-parts}
 use Rattle.tablecheck.specs.Inner.{pageMapped}
 use Rattle.tablecheck.proofs.SpanLaws.{lent-mapped}
@@ -50,10 +50,10 @@ rights-above r f g = by-test (ltb 7 r) (λ t. t) (λ n. true-false (allowedRight
 
 -- where rights are allowed neither applies, and where they are not one of the two does
 module _ (r : ℕ) (rs : List (Refusal ℕ)) where
-  pub rights-pass : allowedRights r ≡ true → decide (wrongRights r ∷ rightsReserved r ∷ rs) 0 ≡ decide rs 0
+  pub rights-pass : allowedRights r ≡ true → decide (wrongRights r ∷ writeWithoutRead r ∷ rs) 0 ≡ decide rs 0
   rights-pass t = passed _ _ _ _ (le-ltb 7 r (allowed-low r t)) ∙ passed _ _ _ _ (allowed-unreserved r t)
 
-  pub rights-stop : allowedRights r ≡ false → decide (wrongRights r ∷ rightsReserved r ∷ rs) 0 ≡ decide (wrongRights r ∷ rightsReserved r ∷ []) 0
+  pub rights-stop : allowedRights r ≡ false → decide (wrongRights r ∷ writeWithoutRead r ∷ rs) 0 ≡ decide (wrongRights r ∷ writeWithoutRead r ∷ []) 0
   rights-stop f =
       by-test (reservedRights r)
       (λ t. let p = reserved-passes-six r t in passed _ _ _ _ p ∙ refused _ _ _ _ t ∙ sym (passed _ _ _ _ p ∙ refused _ _ _ _ t))

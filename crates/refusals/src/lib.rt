@@ -53,7 +53,7 @@ pub fn outcome(a: Answer) -> Outcome
         Answer::WrongPoolSize => refusal(4),
         Answer::NoSuchSpace => refusal(5),
         Answer::WrongRights => refusal(6),
-        Answer::RightsReserved => refusal(17),
+        Answer::WriteWithoutRead => refusal(17),
         Answer::WrongAccess => refusal(7),
         Answer::WrongSpan => refusal(8),
         Answer::AlreadyOpen => refusal(9),

@@ -8,7 +8,7 @@ ghost use Rattle.words.specs.Rows.{refusal};
 ghost use Rattle.runs.specs.PageWords.{allowedRights};
 ghost use Rattle.control.specs.Control.{controlBufferWords};
 ghost use Rattle.layout.specs.Answers.{outcome};
-ghost use Rattle.layout.specs.Calls.{wrongRights, rightsReserved};
+ghost use Rattle.layout.specs.Calls.{wrongRights, writeWithoutRead};
 ghost use Rattle.refusals.specs.Inner.{ofSpan};
 use layout::Answer;
 use ranges::page_words::allowed_rights;
@@ -19,10 +19,10 @@ use tablecheck::is_span;
 // Why rights that are not allowed are refused: 17 where they are reserved, else 6.
 fn refused_rights(rights: u32) -> Answer
     requires { ⌜ allowedRights rights ≡ false ⌝ }
-    ensures { λ r. ⌜ outcome r ≡ refusal (decide (wrongRights rights ∷ rightsReserved rights ∷ []) 0) ⌝ }
+    ensures { λ r. ⌜ outcome r ≡ refusal (decide (wrongRights rights ∷ writeWithoutRead rights ∷ []) 0) ⌝ }
 {
     if reserved_rights(rights) {
-        return Answer::RightsReserved;
+        return Answer::WriteWithoutRead;
     }
     Answer::WrongRights
 }

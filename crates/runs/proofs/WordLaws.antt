@@ -24,7 +24,7 @@ is-reserved r (inr e) = ap reservedRights e
 
 pub allowed-low : (r : ℕ) → allowedRights r ≡ true → r ≤ 7
 unfolding allowedRights
-allowed-low r t = leb-true _ _ (and-true (leb r 7) (not (reservedRights r)) t .0)
+allowed-low r t = leb-true _ _ (and-true (leb r 7) _ t .0)
 
 pub allowed-unreserved : (r : ℕ) → allowedRights r ≡ true → reservedRights r ≡ false
 unfolding allowedRights
@@ -32,6 +32,9 @@ allowed-unreserved r t = not-true _ (and-true (leb r 7) (not (reservedRights r))
 
 pub not-reserved : (r : ℕ) → allowedRights r ≡ true → NotReserved r
 not-reserved r t = let f = allowed-unreserved r t in (λ e. true-false _ (is-reserved r (inl e)) f, λ e. true-false _ (is-reserved r (inr e)) f)
+
+pub zero-unreserved : NotReserved 0
+zero-unreserved = (λ e. omega arith, λ e. omega arith)
 
 pub allowed-by : (r : ℕ) → r ≤ 7 → reservedRights r ≡ false → allowedRights r ≡ true
 unfolding allowedRights

@@ -42,7 +42,7 @@ largestRights = 7
 unfoldable pub reservedRights : ℕ → Bool
 reservedRights r = eqb r 2 || eqb r 6
 
--- the same said of statements: neither 2 nor 6
+-- neither 2 nor 6, for statements
 abbrev pub NotReserved : ℕ → Type 0
 NotReserved r = (r ≡ 2 → ⊥) × (r ≡ 6 → ⊥)
 
