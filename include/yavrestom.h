@@ -32,7 +32,7 @@
  *   15  no number is left for a removal record
  *
  * Rights and accesses: read 1, write 2, execute 4. An access is one of these. Rights are a sum of them in which write
- * comes with read: 0, 1, 3, 4, 5 or 7.
+ * comes with read: 0, 1, 3, 4, 5 or 7. Tables or units that hold other rights are refused with 2.
  */
 #ifndef YAVRESTOM_H
 #define YAVRESTOM_H

@@ -42,7 +42,8 @@ fn run_of(pages: &[u32], page: usize) -> std::ops::Range<usize> {
     base..limit
 }
 
-fn give(word: &mut u32, rights: u32) {
+/// Gives a mapped page's word other rights.
+pub fn give(word: &mut u32, rights: u32) {
     *word = *word - RIGHTS * (*word / RIGHTS % 8) + RIGHTS * rights;
 }
 
@@ -67,8 +68,8 @@ fn damage_pages(r: &mut Random, w: &mut World, rights: u32) -> Option<&'static s
     if run.len() < 8 {
         return Some(IN_TABLES[0]);
     }
-    let entries = w.ranges[512 * space..][..512].chunks_mut(4);
-    let entry = entries.into_iter().find(|e| e[0] as usize == run.start && e[1] as usize == run.end)?;
+    let mut entries = w.ranges[512 * space..][..512].chunks_mut(4);
+    let entry = entries.find(|e| e[0] as usize == run.start && e[1] as usize == run.end)?;
     entry[3] = rights;
     Some(IN_TABLES[1])
 }

@@ -1,7 +1,7 @@
 //! Tables that are right but for one run, whose range entry and range bits say something other than its pages. Each is unsound.
 use crate::kernel::*;
 use crate::random::Random;
-use crate::rights::ALLOWED;
+use crate::rights::{give, ALLOWED};
 
 const RANGE_BIT: u32 = 32_768;
 
@@ -65,7 +65,7 @@ fn unmap_unlisted(w: &mut World, space: usize, first: usize, count: usize) -> bo
 fn change_rights(r: &mut Random, word: &mut u32) {
     let rights = *word / RIGHTS % 8;
     let others: Vec<u32> = ALLOWED.into_iter().filter(|other| *other != rights).collect();
-    *word = *word - RIGHTS * rights + RIGHTS * r.pick(&others);
+    give(word, r.pick(&others));
 }
 
 /// Damages one range and says which of `KINDS` was done, or nothing where no range can be damaged.
