@@ -1,4 +1,5 @@
-/* Yavrestom: the ten calls for a kernel in C. A kernel in Rust declares the same functions in an extern "C" block.
+/* Yavrestom: the ten calls for a kernel in C (libkernel.a), and page words to and from Sv39 entries for a debugger, which
+ * needs no kernel beside it (libsv39.a). Rust declares the same functions in an extern "C" block.
  *
  * Every buffer is lent as a pointer and, after it, its length in words (of 32 bits). The pointer is not null, and
  * that many words stand there. A buffer that a call may write (no const) overlaps no other buffer of that call, and
@@ -30,6 +31,7 @@
  *   13  the right is lacking
  *   14  fewer frames are free than asked
  *   15  no number is left for a removal record
+ *   18  a page word or an Sv39 entry has no counterpart, or the word is none of a page table
  *
  * Rights and accesses: read 1, write 2, execute 4. An access is one of these. Rights are a sum of them in which write
  * comes with read: 0, 1, 3, 4, 5 or 7. Tables or units that hold other rights are refused with 2.
@@ -125,6 +127,17 @@ uint32_t yavrestom_translate(uint32_t *unit, size_t unit_words, const uint32_t *
 uint32_t yavrestom_coverage(const uint32_t *control, size_t control_words, const uint32_t *frames, size_t frames_words,
                             const uint32_t *pages, size_t pages_words, const uint32_t *ranges, size_t ranges_words,
                             uint32_t space, uint32_t *values, size_t values_words);
+
+/* The Sv39 leaf entry of a page word, whatever its 32 bits are. The entry has V, A and D set, R, W and X as the page's
+ * rights, the range bit at bit 8 and the frame from bit 10 on, so it has 22 bits; all other bits are clear. An unmapped
+ * page (word 0) has the entry 0. A page that is mapped with rights 0 has none.
+ * Values: the entry, 0. Refused: 1 (the length of `values`), 18. */
+uint32_t yavrestom_to_sv39(uint32_t word, uint32_t *values, size_t values_words);
+
+/* The page word of an Sv39 entry, whatever its 64 bits are: the other way. An entry other than 0 has none if V, A or D is
+ * clear, if one of bits 4, 5, 9 and 54 to 63 is set, if its frame is above 4,095, or if its rights are 0, 2 or 6.
+ * Values: the word, 0. Refused: 1 (the length of `values`), 18. */
+uint32_t yavrestom_from_sv39(uint64_t entry, uint32_t *values, size_t values_words);
 
 #ifdef __cplusplus
 }

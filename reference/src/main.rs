@@ -2,11 +2,13 @@
 
 #![forbid(unsafe_code)]
 
+mod entries;
 mod gen;
 #[cfg(test)]
 mod plain;
 mod pool;
 mod state;
+mod sv39;
 mod tables;
 #[cfg(test)]
 mod tests;
@@ -22,7 +24,8 @@ use std::time::Instant;
 
 use unit::Rules;
 
-const USAGE: &str = "usage: reference run | encode | decode | calls | stats | state
+const USAGE: &str =
+    "usage: reference run | encode | decode | calls | stats | state | convert | entries
        reference gen SEED N STYLE   (mixed, sleep, fragment, big, garbage)
        reference bench [-k K] FILE..";
 
@@ -45,8 +48,12 @@ fn invalid(what: &str) -> io::Error {
 /// The rules, with the planted bug that REFERENCE_BUG names.
 fn rules() -> io::Result<Rules> {
     let name = std::env::var("REFERENCE_BUG").unwrap_or_default();
-    Rules::with_bug(&name)
-        .ok_or_else(|| invalid("REFERENCE_BUG is 65, limit, keep, half, before, six or late"))
+    Rules::with_bug(&name).ok_or_else(|| {
+        invalid(
+            "REFERENCE_BUG is 65, limit, keep, half, before, six, late, \
+             clean, nine, further or above",
+        )
+    })
 }
 
 fn command(args: &[&str]) -> io::Result<()> {
@@ -61,6 +68,8 @@ fn command(args: &[&str]) -> io::Result<()> {
         ["calls"] => text::calls(input, &mut output, rules()?)?,
         ["stats"] => trace::stats(input, rules()?)?.print(&mut output)?,
         ["state"] => state::serve(&mut input, &mut output, &rules()?)?,
+        ["convert"] => state::convert(&mut input, &mut output, &rules()?)?,
+        ["entries"] => entries::describe(input, &mut output, rules()?)?,
         ["gen", seed, n, style] => {
             let seed = seed.parse().map_err(|_| invalid("SEED is a number"))?;
             let n = n.parse().map_err(|_| invalid("N is a number"))?;

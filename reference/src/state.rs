@@ -2,6 +2,7 @@
 
 use std::io::{self, Read, Write};
 
+use crate::sv39;
 use crate::tables;
 use crate::unit::{self, Rules, Unit, UNIT_WORDS};
 use crate::words::{numbers, Buffers, Outcome};
@@ -93,6 +94,27 @@ pub fn serve<R: Read, W: Write>(input: &mut R, output: &mut W, rules: &Rules) ->
             put(output, buffer)?;
         }
         put(output, &unit.to_words())?;
+        output.flush()?;
+    }
+    Ok(())
+}
+
+/// Answers conversions until the end of input: the direction, 0 to entries or 1 from
+/// them, a count, and that many words or entries of 64 bits.
+pub fn convert<R: Read, W: Write>(input: &mut R, output: &mut W, rules: &Rules) -> io::Result<()> {
+    while let Some(direction) = word_or_end(input)? {
+        let count = word(input)? as usize;
+        let mut bytes = vec![0; 8 * count];
+        input.read_exact(&mut bytes)?;
+        let answers: Vec<u32> = bytes
+            .chunks_exact(8)
+            .map(|number| u64::from_le_bytes(number.try_into().unwrap()))
+            .flat_map(|number| match direction {
+                0 => numbers(sv39::to_sv39(number as u32, rules)),
+                _ => numbers(sv39::from_sv39(number, rules)),
+            })
+            .collect();
+        put(output, &answers)?;
         output.flush()?;
     }
     Ok(())

@@ -1,6 +1,8 @@
+use crate::entries;
 use crate::gen::{generate, Random, Style};
 use crate::plain::{allowed, long_runs, nearest, refusals, unit_kept, Plain, PlainUnit};
 use crate::state;
+use crate::sv39::{from_sv39, to_sv39, word_of, Cause};
 use crate::tables::{self, figure, judge};
 use crate::text;
 use crate::trace::*;
@@ -891,6 +893,241 @@ fn reserved_rights_make_a_unit_malformed() {
     }
 }
 
+// Page words to and from Sv39 entries (document 02, change 5).
+
+/// Page words with their entries, worked by hand.
+const BY_HAND: [(u32, u64); 7] = [
+    (0, 0),
+    // Read, frame 0: V, R, A and D are set.
+    (69_632, 0xc3),
+    // Read and write, frame 5, in no range and in one.
+    (77_829, 0x14c7),
+    (110_597, 0x15c7),
+    // Read and execute, frame 1.
+    (86_017, 0x4cb),
+    // Execute, the last frame.
+    (86_015, 0x3f_fcc9),
+    // The greatest word.
+    (131_071, 0x3f_fdcf),
+];
+
+/// The entry of a word as a sum, in which V, A and D are 193.
+fn entry_by_sum(word: u32) -> Option<u32> {
+    let (range, rights, frame) = (word / 32768 % 2, word / 4096 % 8, word % 4096);
+    let leaf = word / 65536 == 1 && [1, 3, 4, 5, 7].contains(&rights);
+    match word {
+        0 => Some(0),
+        _ => leaf.then_some(193 + 2 * rights + 256 * range + 1024 * frame),
+    }
+}
+
+#[test]
+fn conversions_by_hand() {
+    let right = Rules::default();
+    for (word, entry) in BY_HAND {
+        assert_eq!(to_sv39(word, &right), Ok((entry as u32, 0)), "{word}");
+        assert_eq!(from_sv39(entry, &right), Ok((word, 0)), "{entry:#x}");
+        assert_eq!(entry_by_sum(word), Some(entry as u32), "{word}");
+    }
+}
+
+#[test]
+fn conversions_there_and_back() {
+    let right = Rules::default();
+    // By each entry of 22 bits, the word that converts to it.
+    let mut words = vec![None; 1 << 22];
+    let mut accepted = 0;
+    for word in 0..1 << 17 {
+        let made = to_sv39(word, &right);
+        assert_eq!(made, entry_by_sum(word).map(|e| (e, 0)).ok_or(18), "{word}");
+        if let Ok((entry, _)) = made {
+            words[entry as usize] = Some((word, 0));
+            accepted += 1;
+        }
+    }
+    assert_eq!(accepted, 40_961);
+    assert_eq!(words.iter().flatten().count(), accepted);
+    // Those entries convert, back to the same word, and no others.
+    for (entry, word) in (0..).zip(words) {
+        assert_eq!(from_sv39(entry, &right), word.ok_or(18), "{entry:#x}");
+    }
+}
+
+#[test]
+fn words_above_have_no_entry() {
+    let with_a_bit = |(word, _): (u32, u64)| (17..32).map(move |place| word | 1 << place);
+    let above = (1 << 17..=u32::MAX).step_by(4093);
+    let above = above.chain(BY_HAND.into_iter().flat_map(with_a_bit));
+    for word in above.chain([u32::MAX]) {
+        assert_eq!(to_sv39(word, &Rules::default()), Err(18), "{word}");
+    }
+}
+
+#[test]
+fn each_bit_of_an_entry_counts() {
+    let words = (0..1 << 17)
+        .step_by(37)
+        .chain(BY_HAND.map(|(word, _)| word));
+    for (word, entry) in words.filter_map(|w| entry_by_sum(w).map(|e| (w, e))) {
+        for place in 0..64 {
+            let found = from_sv39(u64::from(entry) ^ 1 << place, &Rules::default());
+            // The bit of the word that goes with this one, if there is one.
+            let bit = match place {
+                1..=3 => place + 11,
+                8 => 15,
+                10..=21 => place - 10,
+                _ => {
+                    assert_eq!(found, Err(18), "{entry:#x} {place}");
+                    continue;
+                }
+            };
+            let other = word ^ 1 << bit;
+            let expected = entry_by_sum(other).map(|_| (other, 0)).ok_or(18);
+            assert_eq!(found, expected, "{entry:#x} {place}");
+        }
+    }
+}
+
+#[test]
+fn causes_in_order() {
+    let right = Rules::default();
+    // W alone of the flags, every further bit, and frame 4,096.
+    let mut entry = 1 << 2 | 1 << 4 | 1 << 5 | 1 << 9 | 1 << 22 | 0x3ff << 54;
+    let mut causes: Vec<Cause> = [0, 6, 7].map(Cause::Clear).into();
+    causes.extend([4, 5, 9].into_iter().chain(54..64).map(Cause::Further));
+    causes.extend([Cause::FrameAbove, Cause::Rights]);
+    for cause in causes {
+        assert_eq!(word_of(entry, &right), Err(cause), "{entry:#x}");
+        assert_eq!(from_sv39(entry, &right), Err(18));
+        // Mended, so that the next cause is the first.
+        entry ^= match cause {
+            Cause::Clear(place) | Cause::Further(place) => 1 << place,
+            Cause::FrameAbove => 1 << 22,
+            Cause::Rights => 1 << 1,
+        };
+    }
+    assert_eq!(from_sv39(entry, &right), Ok((65536 + 3 * 4096, 0)));
+}
+
+#[test]
+fn conversions_in_a_text() {
+    // Before any pool, and between calls on one.
+    let lines = "to_sv39 77829\nto_sv39 0x13005\nfrom_sv39 5319 # or\nfrom_sv39 0x14C7
+from_sv39 0x15c7\nto_sv39 4294967295\nfrom_sv39 18446744073709551615\nfrom_sv39 0xffffffffffffffff
+setup 32\nfrom_sv39 0\nopen 0\nto_sv39 0\nmap 0 4 11 3\nto_sv39 65536\ncoverage 0\n";
+    let expected = "line call answer first second
+1 to_sv39 0 5319 0
+2 to_sv39 0 5319 0
+3 from_sv39 0 77829 0
+4 from_sv39 0 77829 0
+5 from_sv39 0 110597 0
+6 to_sv39 18 0 0
+7 from_sv39 18 0 0
+8 from_sv39 18 0 0
+9 setup 0 0 0
+10 from_sv39 0 0 0
+11 open 0 0 0
+12 to_sv39 0 0 0
+13 map 0 3 0
+14 to_sv39 18 0 0
+15 coverage 0 10000 0
+";
+    assert_eq!(made_by(lines, Rules::default()), expected);
+}
+
+/// What `entries` prints, and what is wrong with the line it stopped at.
+fn said_of(lines: &str, rules: Rules) -> (String, Option<String>) {
+    let mut printed = Vec::new();
+    let result = entries::describe(lines.as_bytes(), &mut printed, rules);
+    let error = result.err().map(|e| e.to_string());
+    (String::from_utf8(printed).unwrap(), error)
+}
+
+#[test]
+fn entries_in_words() {
+    let said: [(u64, &str); 20] = [
+        (0, "unmapped, word 0"),
+        (0x14c7, "frame 5, rights rw-, in no range, word 77829"),
+        (0x15c7, "frame 5, rights rw-, in a range, word 110597"),
+        (0x4cb, "frame 1, rights r-x, in no range, word 86017"),
+        (0x3ffcc9, "frame 4095, rights --x, in no range, word 86015"),
+        (0x400, "no flags, frame 1, no word: valid (V) is clear"),
+        (
+            0x15c6,
+            "flags R W A D RSW8, frame 5, no word: valid (V) is clear",
+        ),
+        (
+            0x1487,
+            "flags V R W D, frame 5, no word: accessed (A) is clear",
+        ),
+        (
+            0x1447,
+            "flags V R W A, frame 5, no word: dirty (D) is clear",
+        ),
+        (
+            0x14df,
+            "flags V R W X U A D, frame 5, no word: further bit 4 (U) is set",
+        ),
+        (
+            0x14e7,
+            "flags V R W G A D, frame 5, no word: further bit 5 (G) is set",
+        ),
+        (
+            0x17c3,
+            "flags V R A D RSW8 RSW9, frame 5, no word: further bit 9 (RSW) is set",
+        ),
+        (
+            1 << 54 | 1 << 60 | 0xc1,
+            "flags V A D reserved54 reserved60, frame 0, no word: further bit 54 (reserved) is set",
+        ),
+        (
+            0b111 << 61 | 0xc3,
+            "flags V R A D PBMT61 PBMT62 N, frame 0, no word: further bit 61 (PBMT) is set",
+        ),
+        (
+            1 << 63 | 0xc3,
+            "flags V R A D N, frame 0, no word: further bit 63 (N) is set",
+        ),
+        (
+            0x4000c7,
+            "flags V R W A D, frame 4096, no word: the frame is above 4095",
+        ),
+        (
+            (1 << 54) - 1024 + 0xc1,
+            "flags V A D, frame 17592186044415, no word: the frame is above 4095",
+        ),
+        (
+            0x14c1,
+            "flags V A D, frame 5, no word: rights --- (no leaf)",
+        ),
+        (
+            0x14c5,
+            "flags V W A D, frame 5, no word: rights -w- (reserved)",
+        ),
+        (
+            0x15cd,
+            "flags V W X A D RSW8, frame 5, no word: rights -wx (reserved)",
+        ),
+    ];
+    let right = Rules::default();
+    for (entry, what) in said {
+        let expected = (format!("{entry:#x}: {what}\n"), None);
+        assert_eq!(said_of(&format!("{entry}"), right), expected);
+        let among = format!("# one\n\n  {entry:#x}# alone\n");
+        assert_eq!(said_of(&among, right), expected);
+    }
+    for (wrong, what) in [
+        ("0x", text::NO_ENTRY),
+        ("-1", text::NO_ENTRY),
+        ("0x10000000000000000", text::NO_ENTRY),
+        ("1 2", "more than one entry"),
+    ] {
+        let (printed, error) = said_of(&format!("0 # first\n\n{wrong}\n0\n"), right);
+        assert_eq!(printed, "0x0: unmapped, word 0\n");
+        assert_eq!(error, Some(format!("line 3: {what}")));
+    }
+}
+
 // The record file.
 
 #[test]
@@ -976,13 +1213,27 @@ translate 7 0 6 1\ncoverage 65535\nraw 0000\nraw 0100ff\nraw 04000100\n";
         "preview 0 0 1",
         "preview 0 0 1 3 3",
         "preview 0 0 1 x",
+        "to_sv39",
+        "to_sv39 1 2",
+        "to_sv39 4294967296",
+        "to_sv39 0x100000000",
+        "to_sv39 x",
+        "from_sv39",
+        "from_sv39 1 2",
+        "from_sv39 18446744073709551616",
+        "from_sv39 0x",
+        "from_sv39 +1",
+        "from_sv39 0x-1",
     ] {
         let lines = format!("setup 32\n# first\n{wrong}\n");
         assert!(encode_error(&lines).starts_with("line 3: "));
         assert_eq!(calls_error(&lines), encode_error(&lines));
     }
-    let error = encode_error("setup 32\n\npreview 0 0 1 3\nset 3");
-    assert_eq!(error, "line 3: preview has no record kind");
+    for recordless in ["preview 0 0 1 3", "to_sv39 77829", "from_sv39 0x14c7"] {
+        let error = encode_error(&format!("setup 32\n\n{recordless}\nset 3"));
+        let name = recordless.split_once(' ').unwrap().0;
+        assert_eq!(error, format!("line 3: {name} has no record kind"));
+    }
     assert_eq!(calls_error("setup 32\nraw 0000"), "line 2: raw is no call");
     let mut random = Random(11);
     for round in 0..400 {
@@ -1374,6 +1625,100 @@ fn bug_late_in_a_listing() {
             assert_eq!(wrong, format!("{start} 8 0 0"));
         }
     }
+}
+
+/// Low bits, frames and upper bits of entries in all combinations.
+fn some_entries() -> Vec<u64> {
+    let mut all = Vec::new();
+    for frame in [0, 1, 5, 4095, 4096, 4097, 8191, 1 << 43] {
+        for upper in [0, 1, 1 << 6, 1 << 9, 0x3ff] {
+            all.extend((0..1024).map(|low| low | frame << 10 | upper << 54));
+        }
+    }
+    all
+}
+
+#[test]
+fn bugs_of_conversions_change_what_they_say() {
+    let right = Rules::default();
+    let [clean, nine, further, above] =
+        ["clean", "nine", "further", "above"].map(|name| Rules::with_bug(name).unwrap());
+    let exchanged = |entry: u64| entry & !0x300 | entry >> 1 & 0x100 | entry << 1 & 0x200;
+
+    for word in (0..1 << 17).chain([1 << 17, u32::MAX]) {
+        let made = to_sv39(word, &right);
+        let altered = |alter: &dyn Fn(u64) -> u64| made.map(|(e, _)| (alter(e.into()) as u32, 0));
+        assert_eq!(to_sv39(word, &clean), altered(&|e| e & !128), "{word}");
+        assert_eq!(to_sv39(word, &nine), altered(&exchanged), "{word}");
+        assert_eq!(to_sv39(word, &further), made, "{word}");
+        assert_eq!(to_sv39(word, &above), made, "{word}");
+    }
+
+    // Of an entry that stands for one that is not all zero.
+    let leaf = |entry: u64| match entry {
+        0 => Err(18),
+        _ => from_sv39(entry, &right),
+    };
+    for entry in some_entries() {
+        let found = from_sv39(entry, &right);
+        assert_eq!(from_sv39(entry, &clean), found, "{entry:#x}");
+        assert_eq!(from_sv39(entry, &nine), from_sv39(exchanged(entry), &right));
+        let bare = match entry {
+            0 => found,
+            _ => leaf(entry << 10 >> 10),
+        };
+        assert_eq!(from_sv39(entry, &further), bare, "{entry:#x}");
+        let taken = match entry >> 10 {
+            4096 => leaf(entry ^ 1 << 22).map(|(word, _)| (word + 4096, 0)),
+            _ => found,
+        };
+        assert_eq!(from_sv39(entry, &above), taken, "{entry:#x}");
+    }
+}
+
+#[test]
+fn bugs_of_conversions_show() {
+    let asked = [
+        ("clean", "to_sv39 77829", "0 5319 0", "0 5191 0"),
+        ("nine", "to_sv39 110597", "0 5575 0", "0 5831 0"),
+        ("nine", "from_sv39 0x15c7", "0 110597 0", "18 0 0"),
+        ("nine", "from_sv39 0x16c7", "18 0 0", "0 110597 0"),
+        (
+            "further",
+            "from_sv39 0x400000000014c7",
+            "18 0 0",
+            "0 77829 0",
+        ),
+        (
+            "further",
+            "from_sv39 0x80000000000014c7",
+            "18 0 0",
+            "0 77829 0",
+        ),
+        ("above", "from_sv39 0x4000c7", "18 0 0", "0 81920 0"),
+        ("above", "from_sv39 0x4001cf", "18 0 0", "0 131072 0"),
+    ];
+    for (bug, line, right, wrong) in asked {
+        let rules = Rules::with_bug(bug).unwrap();
+        let name = line.split_once(' ').unwrap().0;
+        for (rules, answer) in [(Rules::default(), right), (rules, wrong)] {
+            let printed = made_by(line, rules);
+            assert!(
+                printed.ends_with(&format!("\n1 {name} {answer}\n")),
+                "{bug} {line}"
+            );
+        }
+        // No call on the pool shows it.
+        for style in STYLES {
+            let bytes = generated(1, 200, style);
+            assert_eq!(listed(&bytes), listed_by(&bytes, rules), "{bug}");
+        }
+        assert_eq!(made_by(PREVIEW_CALLS, rules), PREVIEW_LINES);
+    }
+    let nine = Rules::with_bug("nine").unwrap();
+    let said = "0x15c7: flags V R W A D RSW8, frame 5, no word: further bit 8 (RSW) is set
+0x16c7: frame 5, rights rw-, in a range, word 110597\n";
+    assert_eq!(said_of("0x15c7\n0x16c7", nine).0, said);
 }
 
 // Against the rules written down slowly.

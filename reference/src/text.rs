@@ -2,12 +2,18 @@
 
 use std::io::{self, BufRead, Read, Write};
 
+use crate::sv39;
 use crate::trace::{Call, Core, Piece, Pieces, ARGS, MAP, NAMES};
 use crate::unit::Rules;
 use crate::words::numbers;
 
-/// The word of the call that has no record kind.
+// The words of the calls that have no record kind.
 const PREVIEW: &str = "preview";
+const TO_SV39: &str = "to_sv39";
+const FROM_SV39: &str = "from_sv39";
+
+/// What is wrong with an entry.
+pub const NO_ENTRY: &str = "an entry is no number of 64 bits";
 
 /// What a line asks for.
 enum Asked {
@@ -18,6 +24,10 @@ enum Asked {
     Call(Call),
     /// Of this map.
     Preview(Call),
+    /// Of this page word.
+    ToSv39(u32),
+    /// Of this entry.
+    FromSv39(u64),
 }
 
 fn wrong(number: usize, what: &str) -> io::Error {
@@ -36,14 +46,50 @@ fn bytes_of_hex<'a>(parts: impl Iterator<Item = &'a str>) -> Result<Vec<u8>, &'s
     Ok(digits.chunks(2).map(|d| 16 * d[0] + d[1]).collect())
 }
 
+/// What stands on a line before a comment.
+pub fn parts(line: &str) -> impl Iterator<Item = &str> {
+    line.split('#').next().unwrap_or("").split_whitespace()
+}
+
+/// A decimal number, or a hexadecimal one behind 0x.
+pub fn number(text: &str) -> Option<u64> {
+    let (digits, radix) = match text.strip_prefix("0x") {
+        Some(digits) => (digits, 16),
+        None => (text, 10),
+    };
+    // No sign, which the library would take.
+    let plain = digits.chars().all(|c| c.is_digit(radix));
+    let number = u64::from_str_radix(digits, radix).ok();
+    number.filter(|_| plain)
+}
+
+fn read_conversion<'a>(
+    name: &str,
+    parts: impl Iterator<Item = &'a str>,
+) -> Result<Asked, &'static str> {
+    let args: Vec<&str> = parts.collect();
+    let [arg] = args[..] else {
+        return Err("wrong number of arguments");
+    };
+    let number = number(arg);
+    if name == FROM_SV39 {
+        return number.map(Asked::FromSv39).ok_or(NO_ENTRY);
+    }
+    let word = number.and_then(|n| u32::try_from(n).ok());
+    word.map(Asked::ToSv39)
+        .ok_or("a word is no number of 32 bits")
+}
+
 fn read_line(line: &str) -> Result<Asked, &'static str> {
-    let line = line.split('#').next().unwrap_or("");
-    let mut parts = line.split_whitespace();
+    let mut parts = parts(line);
     let Some(name) = parts.next() else {
         return Ok(Asked::Nothing);
     };
     if name == "raw" {
         return bytes_of_hex(parts).map(Asked::Raw);
+    }
+    if name == TO_SV39 || name == FROM_SV39 {
+        return read_conversion(name, parts);
     }
     let kind = match name {
         PREVIEW => MAP as usize,
@@ -65,25 +111,29 @@ fn read_line(line: &str) -> Result<Asked, &'static str> {
     })
 }
 
-/// Hands on what each line asks for, with its number, up to the first that is
+/// Hands on what is read from each line, with its number, up to the first that is
 /// wrong.
-fn each_line<R: BufRead>(
+pub fn each_line<R: BufRead, T>(
     input: R,
-    mut take: impl FnMut(usize, Asked) -> io::Result<()>,
+    read: impl Fn(&str) -> Result<T, &'static str>,
+    mut take: impl FnMut(usize, T) -> io::Result<()>,
 ) -> io::Result<()> {
     for (number, line) in (1..).zip(input.lines()) {
-        let asked = read_line(&line?).map_err(|what| wrong(number, what))?;
+        let asked = read(&line?).map_err(|what| wrong(number, what))?;
         take(number, asked)?;
     }
     Ok(())
 }
 
 pub fn encode<R: BufRead, W: Write>(input: R, output: &mut W) -> io::Result<()> {
-    each_line(input, |number, asked| match asked {
+    let none = |number, name: &str| Err(wrong(number, &format!("{name} has no record kind")));
+    each_line(input, read_line, |number, asked| match asked {
         Asked::Nothing => Ok(()),
         Asked::Raw(bytes) => output.write_all(&bytes),
         Asked::Call(call) => output.write_all(&call.bytes()),
-        Asked::Preview(_) => Err(wrong(number, "preview has no record kind")),
+        Asked::Preview(_) => none(number, PREVIEW),
+        Asked::ToSv39(_) => none(number, TO_SV39),
+        Asked::FromSv39(_) => none(number, FROM_SV39),
     })
 }
 
@@ -91,12 +141,14 @@ pub fn encode<R: BufRead, W: Write>(input: R, output: &mut W) -> io::Result<()> 
 pub fn calls<R: BufRead, W: Write>(input: R, output: &mut W, rules: Rules) -> io::Result<()> {
     writeln!(output, "line call answer first second")?;
     let mut core = Core::new(rules);
-    each_line(input, |number, asked| {
+    each_line(input, read_line, |number, asked| {
         let (name, outcome) = match asked {
             Asked::Nothing => return Ok(()),
             Asked::Raw(_) => return Err(wrong(number, "raw is no call")),
             Asked::Call(call) => (NAMES[call.kind as usize], core.perform(&call)),
             Asked::Preview(map) => (PREVIEW, core.preview(&map)),
+            Asked::ToSv39(word) => (TO_SV39, sv39::to_sv39(word, &rules)),
+            Asked::FromSv39(entry) => (FROM_SV39, sv39::from_sv39(entry, &rules)),
         };
         let [answer, first, second] = numbers(outcome);
         writeln!(output, "{number} {name} {answer} {first} {second}")

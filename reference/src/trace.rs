@@ -244,7 +244,8 @@ pub fn half(inside: u32, mapped: u32) -> Option<Half> {
     }
 }
 
-/// Answers that a call or a record can have: 0 to 17.
+/// Answers that a call on the pool or a record can have: 0 to 17. 18 is an answer
+/// of conversions alone, for which no record asks.
 pub const ANSWERS: usize = 18;
 
 /// Counts over a run.

@@ -38,8 +38,8 @@ pub struct Unit {
     pub seen: u32,
 }
 
-/// How map, protect, translate, coverage and preview go; the default is right,
-/// the rest are planted bugs.
+/// How map, protect, translate, coverage, preview and the conversions go; the
+/// default is right, the rest are planted bugs.
 #[derive(Clone, Copy, PartialEq, Eq, Debug)]
 pub struct Rules {
     /// The most unseen records that are applied singly.
@@ -56,6 +56,14 @@ pub struct Rules {
     pub six_in_ranges: bool,
     /// Refusal 17 is judged after 8.
     pub reserved_late: bool,
+    /// A made Sv39 entry is not dirty.
+    pub clean: bool,
+    /// The range bit of an Sv39 entry is bit 9, and bit 8 a further one.
+    pub range_at_nine: bool,
+    /// Bits 54 to 63 of an Sv39 entry are let pass.
+    pub further_passes: bool,
+    /// Frame 4,096 of an Sv39 entry is let pass.
+    pub frame_above: bool,
 }
 
 impl Default for Rules {
@@ -68,6 +76,10 @@ impl Default for Rules {
             ranges_before: false,
             six_in_ranges: false,
             reserved_late: false,
+            clean: false,
+            range_at_nine: false,
+            further_passes: false,
+            frame_above: false,
         }
     }
 }
@@ -85,6 +97,10 @@ impl Rules {
             "before" => rules.ranges_before = true,
             "six" => rules.six_in_ranges = true,
             "late" => rules.reserved_late = true,
+            "clean" => rules.clean = true,
+            "nine" => rules.range_at_nine = true,
+            "further" => rules.further_passes = true,
+            "above" => rules.frame_above = true,
             _ => return None,
         }
         Some(rules)

@@ -62,6 +62,7 @@ fn empty_input() {
     assert_eq!(good(&["decode"], b""), b"");
     assert_eq!(good(&["calls"], b""), b"line call answer first second\n");
     assert_eq!(good(&["state"], b""), b"");
+    assert_eq!(good(&["entries"], b""), b"");
     assert!(good(&["stats"], b"").starts_with(b"records 0\nanswer_0 0\n"));
 }
 
@@ -112,7 +113,7 @@ fn wrong_use() {
     ] {
         assert!(!reference(args, None, b"").status.success(), "{args:?}");
     }
-    for command in ["encode", "calls"] {
+    for command in ["encode", "calls", "entries"] {
         assert!(!reference(&[command], None, b"jump 3").status.success());
     }
     assert!(!reference(&["run"], Some("other"), b"").status.success());
@@ -156,6 +157,52 @@ fn preview_in_a_text() {
     let refused = reference(&["encode"], None, calls);
     assert!(!refused.status.success());
     assert!(String::from_utf8_lossy(&refused.stderr).contains("line 4: "));
+}
+
+#[test]
+fn conversions_in_a_text() {
+    let calls = b"to_sv39 77829\nto_sv39 110597\nfrom_sv39 0x80000000000014c7
+from_sv39 0x4000c7\n";
+    let printed = |bug: Option<&str>| {
+        let output = reference(&["calls"], bug, calls);
+        assert!(output.status.success());
+        String::from_utf8(output.stdout).unwrap()
+    };
+    let right = "line call answer first second
+1 to_sv39 0 5319 0
+2 to_sv39 0 5575 0
+3 from_sv39 18 0 0
+4 from_sv39 18 0 0
+";
+    assert_eq!(printed(None), right);
+    let turned = [
+        ("clean", "1 to_sv39 0 5191 0\n2 to_sv39 0 5447 0"),
+        ("nine", "2 to_sv39 0 5831 0"),
+        ("further", "3 from_sv39 0 77829 0"),
+        ("above", "4 from_sv39 0 81920 0"),
+    ];
+    for (bug, wrong) in turned {
+        let lines = printed(Some(bug));
+        assert!(lines.contains(&format!("\n{wrong}\n")), "{bug}");
+        let differ = lines.lines().zip(right.lines()).filter(|(l, r)| l != r);
+        assert_eq!(differ.count(), wrong.lines().count(), "{bug}");
+    }
+    let refused = reference(&["encode"], None, calls);
+    assert!(!refused.status.success());
+    assert!(String::from_utf8_lossy(&refused.stderr).contains("line 1: "));
+}
+
+#[test]
+fn entries_in_words() {
+    let entries = b"0x14c7 # read and write\n\n0\n22\nx\n";
+    let output = reference(&["entries"], None, entries);
+    assert!(!output.status.success());
+    assert!(String::from_utf8_lossy(&output.stderr).contains("line 5: "));
+    let said = "0x14c7: frame 5, rights rw-, in no range, word 77829
+0x0: unmapped, word 0
+0x16: flags R W U, frame 0, no word: valid (V) is clear
+";
+    assert_eq!(String::from_utf8(output.stdout).unwrap(), said);
 }
 
 #[test]

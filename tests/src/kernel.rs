@@ -15,6 +15,9 @@ pub struct Answer {
     pub second: u32,
 }
 
+/// What a place for the two values holds before a call.
+pub const VALUES: [u32; 2] = [0xdead_beef; 2];
+
 /// A call by its number in the second program's protocol, with its arguments.
 #[derive(Clone, Copy, PartialEq, Debug)]
 pub struct Call {
@@ -203,7 +206,7 @@ extern "C" {
 impl World {
     /// The proved call on these words. The two values are taken from a lent place that held other numbers before.
     pub fn call(&mut self, call: Call) -> Answer {
-        let mut values = [0xdead_beef_u32, 0xdead_beef];
+        let mut values = VALUES;
         let number = self.call_into(call, &mut values);
         Answer {
             number,

@@ -12,7 +12,13 @@ pub struct Seen(pub BTreeMap<String, u64>);
 
 impl Seen {
     pub fn note(&mut self, what: impl Into<String>) {
-        *self.0.entry(what.into()).or_default() += 1;
+        self.add(what, 1);
+    }
+
+    pub fn add(&mut self, what: impl Into<String>, times: u64) {
+        if times > 0 {
+            *self.0.entry(what.into()).or_default() += times;
+        }
     }
 
     /// Prints the counts; false where one that must occur did not.

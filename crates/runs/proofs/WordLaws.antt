@@ -171,6 +171,10 @@ bit-of w m =
     (λ t. let e : w / 32768 % 2 ≡ 1 = eqb-true _ _ t in let s : w ≡ 98304 + w % 32768 = omega arith in s ∙ sym (bit-on _ w m t))
     (λ t. let e : (w / 32768 % 2 ≡ 1 → ⊥) = eqb-false _ _ t in let s : w ≡ 65536 + w % 32768 = omega arith in s ∙ sym (bit-off _ w m t))
 
+-- and it is made of what it says
+pub word-parts : (w : ℕ) → mapped w ≡ true → w ≡ pageWord (rangeBit w) (rightsIn w) (frameIn w)
+word-parts w m = bit-of w m ∙ bit-mapped (rangeBit w) w m
+
 pub of-bit : (b : Bool) (w : ℕ) → mapped w ≡ true → w ≡ bitWord b w → rangeBit w ≡ b
 unfolding rangeBit
 of-bit true w m e = let s : w ≡ 98304 + w % 32768 = e ∙ bit-on true w m refl in let k : w / 32768 ≡ 3 = omega arith in ap (λ (x : ℕ). eqb (x % 2) 1) k
@@ -189,7 +193,7 @@ pub mapped-word : (w : ℕ) → mapped w ≡ true → allowedRights (rightsIn w)
 unfolding isPageWord
 mapped-word w m r = by-test (eqb w 0) (λ t. rw t refl) (λ f. rw (f, m, r) refl)
 
-word-says : {P : Type 0} (w : ℕ) → isPageWord w ≡ true → (w ≡ 0 → P) → (mapped w ≡ true → allowedRights (rightsIn w) ≡ true → P) → P
+pub word-says : {P : Type 0} (w : ℕ) → isPageWord w ≡ true → (w ≡ 0 → P) → (mapped w ≡ true → allowedRights (rightsIn w) ≡ true → P) → P
 unfolding isPageWord
 word-says w t z m =
     by-test (eqb w 0) (λ e. z (eqb-true _ _ e)) (λ f.
@@ -224,6 +228,11 @@ pub made-word : (b : Bool) (r f : ℕ) → allowedRights r ≡ true → f ≤ 40
 unfolding pageWord rightsIn frameIn one-if
 made-word true r f hr hf = let low = allowed-low r hr in record { maps = is-mapped (65536 + 32768 * 1 + 4096 * r + f) (omega arith); rights = omega arith; frame = omega arith }
 made-word false r f hr hf = let low = allowed-low r hr in record { maps = is-mapped (65536 + 32768 * 0 + 4096 * r + f) (omega arith); rights = omega arith; frame = omega arith }
+
+pub made-bit : (b : Bool) (r f : ℕ) → r ≤ 7 → f ≤ 4095 → rangeBit (pageWord b r f) ≡ b
+unfolding pageWord rangeBit one-if
+made-bit true r f hr hf = eq-eqb ((65536 + 32768 * 1 + 4096 * r + f) / 32768 % 2) 1 (omega arith)
+made-bit false r f hr hf = ne-eqb ((65536 + 32768 * 0 + 4096 * r + f) / 32768 % 2) 1 (omega arith)
 
 -- the word k above a mapped one, as long as its frame stays below 4,096
 pub record Ahead (v k : ℕ) : Type 0 where

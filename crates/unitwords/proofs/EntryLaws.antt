@@ -19,12 +19,6 @@ use Rattle.unitwords.specs.UnitWords.{pageEntryAt, rangeEntryAt, unitOf,
 none-left : {A : Type 0} (l : List A) (n : ℕ) → length l ≤ n → drop n l ≡ []
 none-left l n h = drop-of-length-le l h
 
--- words stored over all places of a list
-pub put-all : (vs xs : List ℕ) → length xs ≡ length vs → sets xs 0 vs ≡ vs
-put-all vs xs e =
-    let z : 0 + length vs ≡ length vs = omega arith in
-    sets-eq vs xs 0 (omega arith) ∙ rw (z, none-left xs (length vs) (omega arith)) (append-nil vs)
-
 -- a table, one entry more
 tab-more : {A : Type 0} (n i : ℕ) (f : ℕ → A) → tabFrom (suc n) i f ≡ tabFrom n i f ++ (f (i + n) ∷ [])
 unfolding tabFrom
