@@ -8,6 +8,7 @@ use native.Mathlib.Omega.{arith}
 use lib.Dec.{eqb}
 use lib.Pow.{pow-pos, pow-add}
 use borrow.Author.Tests.{eqb-true, eqb-false, eq-eqb, ne-eqb}
+use Rattle.words.specs.Bits.{hasBit}
 use Rattle.words.proofs.Cases.{by-dec}
 use Rattle.control.specs.Control.{isOpen}
 
@@ -40,15 +41,15 @@ other-bit m s t h ne =
 
 module _ (m s : ℕ) (shut : isOpen m s ≡ false) where
   clear : m / 2 ^ s % 2 ≡ 0
-  unfolding isOpen
+  unfolding isOpen hasBit
   clear = let n : (m / 2 ^ s % 2 ≡ 1 → ⊥) = eqb-false _ _ shut in omega arith
 
   pub set-here : isOpen (m + 2 ^ s) s ≡ true
-  unfolding isOpen
+  unfolding isOpen hasBit
   set-here = eq-eqb _ _ (ap (λ (x : ℕ). x % 2) (at-bit m s) ∙ let z = clear in omega arith)
 
   pub set-other : (t : ℕ) → (t ≡ s → ⊥) → isOpen (m + 2 ^ s) t ≡ isOpen m t
-  unfolding isOpen
+  unfolding isOpen hasBit
   set-other t ne = ap (λ (x : ℕ). eqb x 1) (other-bit m s t clear ne)
 
   pub set-fits : (w : ℕ) → s < w → m < 2 ^ w → m + 2 ^ s < 2 ^ w
@@ -61,7 +62,7 @@ module _ (m s : ℕ) (shut : isOpen m s ≡ false) where
 
 module _ (m s : ℕ) (is-open : isOpen m s ≡ true) where
   pub bit-below : 2 ^ s ≤ m
-  unfolding isOpen
+  unfolding isOpen hasBit
   bit-below =
       let e : m / 2 ^ s % 2 ≡ 1 = eqb-true _ _ is-open in
       by-dec (decLt m (2 ^ s)) (λ lt. let z : m / 2 ^ s ≡ 0 = div-eq-of-lt lt in absurd (omega arith)) (λ ge. omega arith)
@@ -71,7 +72,7 @@ module _ (m s : ℕ) (is-open : isOpen m s ≡ true) where
 
   -- without its bit the mask is one in which the bit is not set
   pub cleared-here : isOpen (m - 2 ^ s) s ≡ false
-  unfolding isOpen
+  unfolding isOpen hasBit
   cleared-here =
       let e : m / 2 ^ s % 2 ≡ 1 = eqb-true _ _ is-open in
       let q : m / 2 ^ s ≡ (m - 2 ^ s) / 2 ^ s + 1 = sym (ap (λ (x : ℕ). x / 2 ^ s) back) ∙ at-bit (m - 2 ^ s) s in

@@ -4,11 +4,12 @@
 -- Only the accessors, the three writers and freshControl know where a word stands; everything else goes by their laws, but for the edge cases, which type whole buffers.
 use mathlib.Core.Bool.{Bool, true, false, _&&_, _||_}
 use mathlib.Core.List.{List, _∷_}
-use Prim.Native.Nat.{ℕ, _+_, _-_, _*_, _/_, _%_, _^_}
+use Prim.Native.Nat.{ℕ, _+_, _-_, _*_, _%_, _^_}
 use lib.Dec.{leb, eqb}
 use lib.ListN.{getD, set, replicate}
 use Rattle.runs.specs.PageWords.{lastSpace, pagesInSpace}
 use Rattle.words.specs.Searches.{allFrom}
+use Rattle.words.specs.Bits.{hasBit}
 use Rattle.blocks.specs.FrameWords.{isPoolSize}
 
 -- "Control, 195 words"
@@ -90,7 +91,7 @@ lawfulControl c = isPoolSize (poolSize c) && (leb (openMask c) allOpen && allFro
 
 -- "space s is 2 to the power s"
 unfoldable pub isOpen : ℕ → ℕ → Bool
-isOpen mask s = eqb (mask / 2 ^ s % 2) 1
+isOpen mask s = hasBit mask s
 
 -- "Open and close a space.": the control words with space s open, or closed
 unfoldable pub withOpened : List ℕ → ℕ → List ℕ
