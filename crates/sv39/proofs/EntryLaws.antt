@@ -4,7 +4,7 @@ use mathlib.Core.Bool.{Bool, true, false, _&&_, _||_, not}
 use mathlib.Core.Logic.{_⊎_, inl, inr}
 use Prim.Native.Nat.{ℕ, _+_, _*_, _/_, _%_, _^_, _<_, _≤_}
 use native.Mathlib.Omega.{arith}
-use lib.Dec.{eqb, leb, ltb}
+use lib.Dec.{eqb, ltb}
 use borrow.Author.Tests.{eq-eqb, ne-eqb, eqb-true, eqb-false, ltb-false, le-ltb, le-leb, not-false}
 use Rattle.words.specs.Bits.{hasBit, bitAt}
 use Rattle.words.specs.Counts.{one-if}
@@ -18,7 +18,7 @@ use Rattle.runs.proofs.WordLaws.{allowed-low, allowed-unreserved, allowed-by, m
 use Rattle.sv39.specs.Entries.{leaf, rightsOf, frameOf, furtherBit, noLeaf, noEntry, entryOf, noWord, wordOf, converted, toSv39, fromSv39}
 use Rattle.sv39.specs.Inner.{wrongFlags}
 use Rattle.sv39.specs.Statements.{flagBits, leafBit}
-use Rattle.sv39.proofs.LeafLaws.{one-small, rights-from, leaf-sum, leaf-bit, leaf-rights, leaf-frame, leaf-lt}
+use Rattle.sv39.proofs.LeafLaws.{rights-from, leaf-sum, leaf-bit, leaf-rights, leaf-frame, leaf-lt}
 
 -- made of a range bit, rights that an entry can have, and a frame
 pub record Made (make : Bool → ℕ → ℕ → ℕ) (x : ℕ) : Type 0 where

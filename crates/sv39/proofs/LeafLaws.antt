@@ -1,24 +1,18 @@
 -- The entry of a mapped page as a sum, its bits, and what it gives when it is read.
-use mathlib.Core.Path.{_≡_, refl, ap, _∙_, sym, subst}
-use mathlib.Core.Bool.{Bool, true, false, _&&_, _||_, not}
-use mathlib.Core.List.{List, [], _∷_}
-use Prim.Native.Nat.{ℕ, zero, suc, _+_, _-_, _*_, _/_, _%_, _^_, _<_, _≤_}
+use mathlib.Core.Path.{_≡_, refl, ap, _∙_, subst}
+use mathlib.Core.Bool.{Bool}
+use Prim.Native.Nat.{ℕ, _+_, _-_, _*_, _/_, _%_, _^_, _<_, _≤_}
 use native.Mathlib.Omega.{arith}
-use lib.Dec.{eqb, ltb}
-use lib.ListN.{length, getD}
-use borrow.Author.Tests.{lt-ltb, le-ltb, ltb-true, ltb-false}
+use lib.Dec.{ltb}
+use borrow.Author.Tests.{ltb-true, ltb-false}
 use Rattle.words.specs.Bits.{hasBit, bitAt}
 use Rattle.words.specs.Counts.{one-if}
 use Rattle.words.specs.Tables.{tabFrom}
 use Rattle.words.proofs.BitLaws.{number, number-bits, number-lt, low-bit, high-bit}
+use Rattle.words.proofs.CountLaws.{one-if-le}
 use Rattle.words.proofs.Cases.{by-test}
 use Rattle.sv39.specs.Entries.{leaf, rightsOf, frameOf}
 use Rattle.sv39.specs.Statements.{flagBits, leafBit}
-
-pub one-small : (b : Bool) → one-if b ≤ 1
-unfolding one-if
-one-small true = omega arith
-one-small false = omega arith
 
 -- rights of an entry stand from bit 1 on
 pub rights-from : (e : ℕ) → rightsOf e ≡ e / 2 % 8
@@ -48,11 +42,11 @@ leaf-bit b r f i =
 
 module _ (b : Bool) (r f : ℕ) (low : r ≤ 7) (fits : f ≤ 4095) where
   pub leaf-rights : rightsOf (leaf b r f) ≡ r
-  leaf-rights = rights-from (leaf b r f) ∙ omega (arith, leaf-sum b r f low, one-small b)
+  leaf-rights = rights-from (leaf b r f) ∙ omega (arith, leaf-sum b r f low, one-if-le b)
 
   pub leaf-frame : frameOf (leaf b r f) ≡ f
   unfolding frameOf
-  leaf-frame = omega (arith, leaf-sum b r f low, one-small b)
+  leaf-frame = omega (arith, leaf-sum b r f low, one-if-le b)
 
   pub leaf-lt : leaf b r f < 2 ^ 22
-  leaf-lt = omega (arith, leaf-sum b r f low, one-small b)
+  leaf-lt = omega (arith, leaf-sum b r f low, one-if-le b)

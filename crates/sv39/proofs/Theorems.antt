@@ -1,8 +1,8 @@
 -- The theorems on the conversions.
-use mathlib.Core.Path.{_≡_, refl, ap, _∙_, sym, subst}
+use mathlib.Core.Path.{_≡_, refl, ap, _∙_, sym}
 use mathlib.Core.Bool.{Bool, true, false}
 use mathlib.Core.Logic.{_⊎_, inl, inr, ⊎-elim}
-use Prim.Native.Nat.{ℕ, _^_, _<_, _≤_}
+use Prim.Native.Nat.{ℕ}
 use native.Mathlib.Omega.{arith}
 use lib.Dec.{eqb, ltb}
 use borrow.Author.Tests.{eqb-true, eqb-false, ltb-true, ltb-false}
@@ -10,12 +10,12 @@ use Rattle.words.specs.declared.Outcome.{Outcome}
 use Rattle.words.specs.Bits.{hasBit, bitAt}
 use Rattle.words.specs.Counts.{one-if}
 use Rattle.words.specs.Searches.{anyFrom}
-use Rattle.words.specs.Rows.{refusal, values}
+use Rattle.words.specs.Rows.{values}
 use Rattle.words.proofs.Cases.{by-test}
 use Rattle.runs.specs.PageWords.{reservedRights, allowedRights, pageWord, mapped, rangeBit, rightsIn, frameIn, isPageWord}
 use Rattle.runs.proofs.WordLaws.{allowed-low, not-reserved}
 use Rattle.sv39.specs.Entries.{leaf, rightsOf, frameOf, furtherBit, noLeaf, noEntry, entryOf, noWord, wordOf, converted, toSv39, fromSv39}
-use Rattle.sv39.specs.Statements.{Converts, LeafRights, LeafWord, WordsConvert, UnmappedIsZero, leafBit, EachBit, WordsReturn, EntriesReturn, FromWord, EntriesConvert, WordExamples, EntryExamples}
+use Rattle.sv39.specs.Statements.{Converts, LeafRights, LeafWord, WordsConvert, UnmappedIsZero, EachBit, WordsReturn, EntriesReturn, FromWord, EntriesConvert, WordExamples, EntryExamples}
 use Rattle.sv39.proofs.LeafLaws.{leaf-bit}
 use Rattle.sv39.proofs.EntryLaws.{Made, accepts, refuses, zero-word, zero-entry, to-zero, from-zero, word-converts, to-entry, entry-converts, to-word, word-made, entry-made}
 

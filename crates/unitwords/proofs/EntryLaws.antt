@@ -5,7 +5,7 @@ use Prim.Native.Nat.{ℕ, zero, suc, _+_, _*_, _<_, _≤_}
 use native.Mathlib.Nat.{zero-add, add-zero, mul-zero, mul-suc}
 use native.Mathlib.Omega.{arith}
 use lib.ListN.{length, getD, set, take, drop, length-append, drop-of-length-le, List·getD-append}
-use lib.Seq.{take-suc, take-all, drop-cons, drop-drop, take-at, drop-at, set-at, sets, sets-eq, length-take-le, getD-append-add}
+use lib.Seq.{take-suc, take-all, drop-cons, drop-drop, take-at, drop-at, set-at, length-take-le, getD-append-add}
 use Rattle.words.specs.Tables.{tabFrom, tabulate}
 use Rattle.words.proofs.TableLaws.{length-tabulate, is-tabulate}
 use Rattle.history.specs.declared.PageEntry.{PageEntry}

@@ -2,7 +2,7 @@
 use mathlib.Core.Path.{_≡_, refl, ap, _∙_, sym, subst}
 use mathlib.Core.Bool.{Bool, true, false}
 use mathlib.Core.List.{List, [], _∷_}
-use Prim.Native.Nat.{ℕ, zero, suc, _+_, _*_, _/_, _%_, _^_, _<_, _≤_}
+use Prim.Native.Nat.{ℕ, zero, suc, _+_, _*_, _/_, _%_, _^_, _<_}
 use native.Mathlib.Nat.{add-zero, add-comm, mul-comm, mul-assoc, mod-one, pow-succ', div-div-eq-div-mul, div-eq-of-lt, div-lt-iff-lt-mul, lt-of-lt-of-le}
 use native.Mathlib.Omega.{arith}
 use lib.Dec.{eqb}
@@ -14,15 +14,11 @@ use Rattle.words.specs.Counts.{one-if}
 use Rattle.words.specs.Searches.{anyFrom}
 use Rattle.words.specs.Tables.{tabFrom}
 use Rattle.words.proofs.Cases.{by-test, true-false}
+use Rattle.words.proofs.CountLaws.{one-if-le}
 use Rattle.words.proofs.SearchLaws.{any-none}
 
-one-small : (b : Bool) → one-if b ≤ 1
-unfolding one-if
-one-small true = omega arith
-one-small false = omega arith
-
 -- a bit as a number
-pub bit-is : (n i : ℕ) → one-if (hasBit n i) ≡ n / 2 ^ i % 2
+bit-is : (n i : ℕ) → one-if (hasBit n i) ≡ n / 2 ^ i % 2
 unfolding hasBit one-if
 bit-is n i = by-test (eqb (n / 2 ^ i % 2) 1) (λ t. let e = eqb-true _ _ t in rw t (sym e)) (λ f. let e : (n / 2 ^ i % 2 ≡ 1 → ⊥) = eqb-false _ _ f in rw f (omega arith))
 
@@ -34,7 +30,7 @@ number (b ∷ bs) = one-if b + 2 * number bs
 pub number-lt : (bs : List Bool) → number bs < 2 ^ length bs
 unfolding number
 number-lt [] = omega arith
-number-lt (b ∷ bs) = let h = number-lt bs in rw (pow-succ' 2 (length bs)) (omega (arith, one-small b))
+number-lt (b ∷ bs) = let h = number-lt bs in rw (pow-succ' 2 (length bs)) (omega (arith, one-if-le b))
 
 -- the bits of e at n places from i on
 pub number-bits : (n i e : ℕ) → number (tabFrom n i (hasBit e)) ≡ e / 2 ^ i % 2 ^ n

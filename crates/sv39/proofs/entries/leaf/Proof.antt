@@ -1,5 +1,5 @@
 use native.Mathlib.Omega.{arith}
-use mathlib.Core.Path.{_≡_, ap}
+use mathlib.Core.Path.{ap}
 use Rattle.words.specs.Counts.{one-if}
 use Rattle.sv39.proofs.LeafLaws.{leaf-sum}
 use Rattle.sv39.proofs.entries.leaf.Statement.{statement}
