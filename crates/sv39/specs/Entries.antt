@@ -78,7 +78,7 @@ noWord e =
 unfoldable pub wordOf : ℕ → ℕ
 wordOf e = elim (eqb e 0) [ true ↦ 0 | false ↦ pageWord (hasBit e inRange) (rightsOf e) (frameOf e) ]
 
--- "Refused: 18, no counterpart, or a word outside its layout; the only check here." Accepted, the first value is the counterpart; 01: "0 if unnamed"
+-- "Refused: 18, no counterpart, or a word outside its layout; the only check here." Accepted, the counterpart is the first value (docs/DECISIONS.md, 103), and the second is "0 if unnamed" (01)
 unfoldable pub converted : Bool → ℕ → Outcome
 converted refused counterpart = elim refused [ true ↦ refusal 18 | false ↦ values counterpart 0 ]
 

@@ -73,12 +73,12 @@ pub record FromWord (e : ℕ) : Type 0 where
 unfoldable pub EntriesConvert : Type 0
 EntriesConvert = (e : ℕ) → e < 2 ^ 64 → Converts (FromWord e) (fromSv39 e)
 
--- examples of words: mapped with rights 3 and 7; outside the layout; rights 0, 2 and 6; past the layout
+-- examples of words: frame 5 with rights 3; frame 4,095 with rights 7 in a range; below 65,536; rights 0, 2 and 6; above 131,071
 unfoldable pub WordExamples : Type 0
 WordExamples = map toSv39 (77829 ∷ 131071 ∷ 1 ∷ 65536 ∷ 73728 ∷ 90112 ∷ 131072 ∷ []) ≡ found 5319 ∷ found 4193743 ∷ none ∷ none ∷ none ∷ none ∷ none ∷ []
 
--- of entries: read, with frames 0, 4,095 and 4,096; that of frame 0 with valid, accessed or dirty clear; with bit 4, 5, 9, 54 or 63; rights 0, 2 and 6
+-- of entries: frame 4,095 with rights 7 in a range; frames 0, 4,095 and 4,096 with rights 1; that of frame 0 with valid, accessed or dirty clear, with bit 4, 5, 9, 54 or 63 set, with rights 0, 2 and 6
 unfoldable pub EntryExamples : Type 0
 EntryExamples =
-    (map fromSv39 (195 ∷ 4193475 ∷ 4194499 ∷ []) ≡ found 69632 ∷ found 73727 ∷ none ∷ [])
+    (map fromSv39 (4193743 ∷ 195 ∷ 4193475 ∷ 4194499 ∷ []) ≡ found 131071 ∷ found 69632 ∷ found 73727 ∷ none ∷ [])
     × (map fromSv39 (194 ∷ 131 ∷ 67 ∷ 211 ∷ 227 ∷ 707 ∷ (195 + 2 ^ 54) ∷ (195 + 2 ^ 63) ∷ 193 ∷ 197 ∷ 205 ∷ []) ≡ replicate 11 none)

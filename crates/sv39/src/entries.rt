@@ -10,8 +10,10 @@ use ranges::page_words::allowed_rights;
 use ranges::page_words::mapped;
 use ranges::page_words::rights_in;
 
-// The places of bits. U and G are the standard's; of the two bits left to software one is the range bit, and the other is clear.
+// The places of bits; rights stand from READ on. USER and GLOBAL are the standard's U and G; of the two bits left to software one is the range bit, and the other is clear.
 const VALID: u32 = 0;
+
+const READ: u32 = 1;
 
 const USER: u32 = 4;
 
@@ -25,15 +27,16 @@ const IN_RANGE: u32 = 8;
 
 const OTHER_SOFTWARE: u32 = 9;
 
-// What valid, accessed and dirty add to an entry, and what the range bit adds.
+const FRAME: u32 = 10;
+
+// What valid, accessed and dirty add to an entry, what the range bit adds, and what rights and frame are multiplied by.
 const ALWAYS_SET: u32 = 193;
 
 const RANGE_PART: u32 = 256;
 
-// Rights stand from bit 1 on, the frame from bit 10 on.
-const RIGHTS: u32 = 2;
+const RIGHTS_FACTOR: u32 = 2;
 
-const FRAME: u32 = 1024;
+const FRAME_FACTOR: u32 = 1024;
 
 // What an entry with a frame up to 4,095 and no bit above it is at most.
 const LARGEST_ENTRY: u64 = 4194303;
@@ -46,8 +49,8 @@ fn has_bit(entry: u64, place: u32) -> bool
     (entry >> place) % 2 == 1
 }
 
-// Whether a word other than 0 is that of a page whose rights have a leaf form.
-pub fn has_leaf(word: u32) -> bool
+// Whether a word other than 0 has an entry.
+pub fn has_entry(word: u32) -> bool
     requires { ⌜ (word ≡ 0 → ⊥) ⌝ }
     ensures { λ r. ⌜ r ≡ not (noEntry word) ⌝ }
 {
@@ -67,7 +70,7 @@ pub fn leaf(range: bool, rights: u32, f: Frame) -> u32
     requires { ⌜ f .0 ≤ 4095 ⌝ }
     ensures { λ r. ⌜ r ≡ leaf range rights (f .0) ⌝ }
 {
-    let entry = ALWAYS_SET + RIGHTS * rights + FRAME * f.0;
+    let entry = ALWAYS_SET + RIGHTS_FACTOR * rights + FRAME_FACTOR * f.0;
     if range {
         return RANGE_PART + entry;
     }
@@ -100,7 +103,7 @@ fn wrong_flags(entry: u64) -> bool
 pub fn rights_of(entry: u64) -> u32
     ensures { λ r. ⌜ r ≡ rightsOf entry ⌝ }
 {
-    (entry / 2 % 8) as u32
+    ((entry >> READ) % 8) as u32
 }
 
 // The frame of an entry that is not too large.
@@ -108,11 +111,11 @@ pub fn frame_of(entry: u64) -> Frame
     requires { ⌜ entry ≤ 4194303 ⌝ }
     ensures { λ r. ⌜ r .0 ≡ frameOf entry ⌝ }
 {
-    Frame((entry / 1024) as u32)
+    Frame((entry >> FRAME) as u32)
 }
 
 // Whether an entry other than 0 has a word.
-pub fn is_leaf(entry: u64) -> bool
+pub fn has_word(entry: u64) -> bool
     requires { ⌜ (entry ≡ 0 → ⊥) ⌝ }
     ensures { λ r. ⌜ r ≡ not (noWord entry) ⌝ }
 {

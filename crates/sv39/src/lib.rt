@@ -6,9 +6,9 @@ ghost use Rattle.words.specs.Places.{Given};
 ghost use Rattle.words.specs.Rows.{refusal, values};
 ghost use Rattle.sv39.specs.Entries.{toSv39, fromSv39};
 use crate::entries::frame_of;
-use crate::entries::has_leaf;
+use crate::entries::has_entry;
+use crate::entries::has_word;
 use crate::entries::in_range;
-use crate::entries::is_leaf;
 use crate::entries::leaf;
 use crate::entries::rights_of;
 use ranges::page_words::frame_in;
@@ -47,7 +47,7 @@ pub fn to_sv39(word: u32) -> Outcome
     if word == 0 {
         return found(0);
     }
-    if !has_leaf(word) {
+    if !has_entry(word) {
         return none();
     }
     found(leaf(range_bit(word), rights_in(word), frame_in(word)))
@@ -60,7 +60,7 @@ pub fn from_sv39(entry: u64) -> Outcome
     if entry == 0 {
         return found(0);
     }
-    if !is_leaf(entry) {
+    if !has_word(entry) {
         return none();
     }
     found(page_word(in_range(entry), rights_of(entry), frame_of(entry)))

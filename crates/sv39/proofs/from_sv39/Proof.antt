@@ -12,14 +12,14 @@ found-requires c κs = search needs
 returns : tie.Need-returns
 returns c = c .found .ensures ∙ sym (from-zero _ (c .before .if1 .taken))
 
-is-leaf-requires : tie.Need-is-leaf-requires
-is-leaf-requires c κs = search needs
+has-word-requires : tie.Need-has-word-requires
+has-word-requires c κs = search needs
 
 none-requires : tie.Need-none-requires
 none-requires c κs = search needs
 
 returns-2 : tie.Need-returns-2
-returns-2 c = c .none .ensures ∙ sym (from-none _ (not-false _ (sym (c .before .before .is-leaf .ensures) ∙ not-true _ (c .before .if2 .taken))))
+returns-2 c = c .none .ensures ∙ sym (from-none _ (not-false _ (sym (c .before .before .has-word .ensures) ∙ not-true _ (c .before .if2 .taken))))
 
 in-range-requires : tie.Need-in-range-requires
 in-range-requires c κs = search needs
@@ -31,14 +31,14 @@ frame-of-requires : tie.Need-frame-of-requires
 frame-of-requires c κs =
     let b = c .before .before in
     let a = b .before .before .before in
-    let l = entry-says (a .args .entry) (b .before .before .if1 .left) (not-true _ (sym (b .before .is-leaf .ensures) ∙ not-false _ (b .if2 .left))) in
+    let l = entry-says (a .args .entry) (b .before .before .if1 .left) (not-true _ (sym (b .before .has-word .ensures) ∙ not-false _ (b .if2 .left))) in
     omega (arith, entry-lt (a .args .entry) (omega (arith, a .fits .entry)) l)
 
 page-word-requires : tie.Need-page-word-requires
 page-word-requires c κs =
     let b = c .before .before .before in
     let a = b .before .before .before in
-    let l = entry-says (a .args .entry) (b .before .before .if1 .left) (not-true _ (sym (b .before .is-leaf .ensures) ∙ not-false _ (b .if2 .left))) in
+    let l = entry-says (a .args .entry) (b .before .before .if1 .left) (not-true _ (sym (b .before .has-word .ensures) ∙ not-false _ (b .if2 .left))) in
     (rw (c .before .rights-of .ensures) (entry-rights (a .args .entry) l), omega (arith, c .frame-of .ensures, l .fits))
 
 found-requires-2 : tie.Need-found-requires-2
@@ -47,7 +47,7 @@ found-requires-2 c κs = search needs
 returns-3 : tie.Need-returns-3
 returns-3 c =
     let b = c .before .before .before .before in
-    let has = not-true _ (sym (b .before .before .is-leaf .ensures) ∙ not-false _ (b .before .if2 .left)) in
+    let has = not-true _ (sym (b .before .before .has-word .ensures) ∙ not-false _ (b .before .if2 .left)) in
     rw (c .before .page-word .ensures, b .in-range .ensures, c .before .before .before .rights-of .ensures, c .before .before .frame-of .ensures) at (c .found2 .ensures) ∙ sym (from-leaf _ (b .before .before .before .if1 .left) has)
 
 pub from-sv39-spec : {M : Type 1} → statement M
@@ -56,7 +56,7 @@ from-sv39-spec =
     (tie.spec
     found-requires
     returns
-    is-leaf-requires
+    has-word-requires
     none-requires
     returns-2
     in-range-requires

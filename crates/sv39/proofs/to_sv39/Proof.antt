@@ -14,14 +14,14 @@ found-requires c κs = search needs
 returns : tie.Need-returns
 returns c = c .found .ensures ∙ sym (to-zero _ (c .before .if1 .taken))
 
-has-leaf-requires : tie.Need-has-leaf-requires
-has-leaf-requires c κs = search needs
+has-entry-requires : tie.Need-has-entry-requires
+has-entry-requires c κs = search needs
 
 none-requires : tie.Need-none-requires
 none-requires c κs = search needs
 
 returns-2 : tie.Need-returns-2
-returns-2 c = c .none .ensures ∙ sym (to-none _ (not-false _ (sym (c .before .before .has-leaf .ensures) ∙ not-true _ (c .before .if2 .taken))))
+returns-2 c = c .none .ensures ∙ sym (to-none _ (not-false _ (sym (c .before .before .has-entry .ensures) ∙ not-true _ (c .before .if2 .taken))))
 
 range-bit-requires : tie.Need-range-bit-requires
 range-bit-requires c κs = search needs
@@ -42,7 +42,7 @@ found-requires-2 c κs = search needs
 returns-3 : tie.Need-returns-3
 returns-3 c =
     let b = c .before .before .before .before in
-    let has = not-true _ (sym (b .before .before .has-leaf .ensures) ∙ not-false _ (b .before .if2 .left)) in
+    let has = not-true _ (sym (b .before .before .has-entry .ensures) ∙ not-false _ (b .before .if2 .left)) in
     rw (c .before .leaf .ensures, b .range-bit .ensures, c .before .before .before .rights-in .ensures, c .before .before .frame-in .ensures) at (c .found2 .ensures) ∙ sym (to-leaf _ (b .before .before .before .if1 .left) has)
 
 pub to-sv39-spec : {M : Type 1} → statement M
@@ -51,7 +51,7 @@ to-sv39-spec =
     (tie.spec
     found-requires
     returns
-    has-leaf-requires
+    has-entry-requires
     none-requires
     returns-2
     range-bit-requires

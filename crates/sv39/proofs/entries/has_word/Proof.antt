@@ -4,8 +4,8 @@ use mathlib.Core.Path.{refl, ap, _∙_, sym}
 use mathlib.Core.Bool.{not}
 use borrow.Author.Tests.{eq-eqb, ne-eqb}
 use Rattle.sv39.proofs.EntryLaws.{no-word-low, no-word-high, low-allowed}
-use Rattle.sv39.proofs.entries.is_leaf.Statement.{statement}
-use Rattle.sv39.proofs.entries.is_leaf.Tie as tie
+use Rattle.sv39.proofs.entries.has_word.Statement.{statement}
+use Rattle.sv39.proofs.entries.has_word.Tie as tie
 
 returns : tie.Need-returns
 returns c = sym (ap not (no-word-high (c .before .args .entry) (omega (arith, c .before .fits .entry)) (omega (arith, c .if1 .taken))))
@@ -35,8 +35,8 @@ returns-4 c =
     let low = no-word-low (c .before .before .before .before .before .before .args .entry) (c .before .before .before .before .before .before .pre) (omega (arith, c .before .before .before .before .before .if1 .left)) in
     rw (low, sym (c .before .before .before .before .wrong-flags .ensures) ∙ c .before .before .before .if2 .left, ne-eqb _ _ (λ h. c .before .if3 .left (e ∙ h))) (rw e at (c .allowed-rights .ensures) ∙ low-allowed _)
 
-pub is-leaf-spec : {M : Type 1} → statement M
-is-leaf-spec =
+pub has-word-spec : {M : Type 1} → statement M
+has-word-spec =
     tie.close
     (tie.spec
     returns

@@ -3,8 +3,8 @@ use mathlib.Core.Path.{ap, _∙_, sym}
 use mathlib.Core.Bool.{not}
 use borrow.Author.Tests.{not-true, not-false}
 use Rattle.sv39.proofs.EntryLaws.{no-entry-unmapped, no-entry-rights, allowed-entry}
-use Rattle.sv39.proofs.entries.has_leaf.Statement.{statement}
-use Rattle.sv39.proofs.entries.has_leaf.Tie as tie
+use Rattle.sv39.proofs.entries.has_entry.Statement.{statement}
+use Rattle.sv39.proofs.entries.has_entry.Tie as tie
 
 mapped-requires : tie.Need-mapped-requires
 mapped-requires c κs = search needs
@@ -29,8 +29,8 @@ returns-3 c =
     let e = c .before .before .rights-in .ensures in
     rw e at (c .allowed-rights .ensures) ∙ allowed-entry _ (c .before .before .before .before .before .pre) m (λ h. c .before .if2 .left (e ∙ h))
 
-pub has-leaf-spec : {M : Type 1} → statement M
-has-leaf-spec =
+pub has-entry-spec : {M : Type 1} → statement M
+has-entry-spec =
     tie.close
     (tie.spec
     mapped-requires
