@@ -31,7 +31,7 @@
  *   13  the right is lacking
  *   14  fewer frames are free than asked
  *   15  no number is left for a removal record
- *   18  a page word or an Sv39 entry has no counterpart, or the word is none of a page table
+ *   18  the page word or Sv39 entry has no counterpart, or the word is outside the layout of page words
  *
  * Rights and accesses: read 1, write 2, execute 4. An access is one of these. Rights are a sum of them in which write
  * comes with read: 0, 1, 3, 4, 5 or 7. Tables or units that hold other rights are refused with 2.
@@ -128,9 +128,10 @@ uint32_t yavrestom_coverage(const uint32_t *control, size_t control_words, const
                             const uint32_t *pages, size_t pages_words, const uint32_t *ranges, size_t ranges_words,
                             uint32_t space, uint32_t *values, size_t values_words);
 
-/* The Sv39 leaf entry of a page word, whatever its 32 bits are. The entry has V, A and D set, R, W and X as the page's
- * rights, the range bit at bit 8 and the frame from bit 10 on, so it has 22 bits; all other bits are clear. An unmapped
- * page (word 0) has the entry 0. A page that is mapped with rights 0 has none.
+/* The Sv39 leaf entry of a page word, whatever its 32 bits are. A page word is 0 (unmapped) or
+ * 65,536 + 32,768 x range bit + 4,096 x rights + frame. The entry has V, A and D set, R, W and X as the page's rights, the
+ * range bit at bit 8 and the frame from bit 10 on, all other bits clear; so it has at most 22 bits. Word 0 has the entry 0.
+ * A page that is mapped with rights 0 has none, nor has a word outside the layout, rights 2 and 6 among them.
  * Values: the entry, 0. Refused: 1 (the length of `values`), 18. */
 uint32_t yavrestom_to_sv39(uint32_t word, uint32_t *values, size_t values_words);
 

@@ -99,21 +99,29 @@ pub fn serve<R: Read, W: Write>(input: &mut R, output: &mut W, rules: &Rules) ->
     Ok(())
 }
 
-/// Answers conversions until the end of input: the direction, 0 to entries or 1 from
-/// them, a count, and that many words or entries of 64 bits.
+/// Makes one conversion by its direction: 0 to an entry, 1 from one.
+fn conversion(direction: u32, number: u64, rules: &Rules) -> Option<Outcome> {
+    match direction {
+        0 => Some(sv39::to_sv39(number.try_into().ok()?, rules)),
+        1 => Some(sv39::from_sv39(number, rules)),
+        _ => None,
+    }
+}
+
+/// Answers conversions until the end of input: a direction, a count, and that many
+/// numbers of 64 bits.
 pub fn convert<R: Read, W: Write>(input: &mut R, output: &mut W, rules: &Rules) -> io::Result<()> {
     while let Some(direction) = word_or_end(input)? {
         let count = word(input)? as usize;
-        let mut bytes = vec![0; 8 * count];
-        input.read_exact(&mut bytes)?;
-        let answers: Vec<u32> = bytes
-            .chunks_exact(8)
-            .map(|number| u64::from_le_bytes(number.try_into().unwrap()))
-            .flat_map(|number| match direction {
-                0 => numbers(sv39::to_sv39(number as u32, rules)),
-                _ => numbers(sv39::from_sv39(number, rules)),
-            })
-            .collect();
+        let mut answers = Vec::with_capacity(3 * count);
+        for number in words(input, 2 * count)?.chunks_exact(2) {
+            let number = u64::from(number[0]) | u64::from(number[1]) << 32;
+            let outcome = conversion(direction, number, rules).ok_or_else(|| {
+                let what = format!("no conversion {direction} of {number}");
+                io::Error::new(io::ErrorKind::InvalidData, what)
+            })?;
+            answers.extend(numbers(outcome));
+        }
         put(output, &answers)?;
         output.flush()?;
     }

@@ -423,6 +423,8 @@ fn halves_are_counted() {
 
 const PREVIEW_CALLS: &str = include_str!("../../tests/hard/preview.calls");
 const PREVIEW_LINES: &str = include_str!("../../tests/hard/preview.lines");
+const SV39_CALLS: &str = include_str!("../../tests/hard/sv39.calls");
+const SV39_LINES: &str = include_str!("../../tests/hard/sv39.lines");
 
 #[test]
 fn stored_previews() {
@@ -1654,7 +1656,7 @@ fn bugs_of_conversions_change_what_they_say() {
         assert_eq!(to_sv39(word, &above), made, "{word}");
     }
 
-    // Of an entry that stands for one that is not all zero.
+    // An entry that was not zero before bits were taken out is no unmapped page.
     let leaf = |entry: u64| match entry {
         0 => Err(18),
         _ => from_sv39(entry, &right),
@@ -1677,38 +1679,9 @@ fn bugs_of_conversions_change_what_they_say() {
 }
 
 #[test]
-fn bugs_of_conversions_show() {
-    let asked = [
-        ("clean", "to_sv39 77829", "0 5319 0", "0 5191 0"),
-        ("nine", "to_sv39 110597", "0 5575 0", "0 5831 0"),
-        ("nine", "from_sv39 0x15c7", "0 110597 0", "18 0 0"),
-        ("nine", "from_sv39 0x16c7", "18 0 0", "0 110597 0"),
-        (
-            "further",
-            "from_sv39 0x400000000014c7",
-            "18 0 0",
-            "0 77829 0",
-        ),
-        (
-            "further",
-            "from_sv39 0x80000000000014c7",
-            "18 0 0",
-            "0 77829 0",
-        ),
-        ("above", "from_sv39 0x4000c7", "18 0 0", "0 81920 0"),
-        ("above", "from_sv39 0x4001cf", "18 0 0", "0 131072 0"),
-    ];
-    for (bug, line, right, wrong) in asked {
+fn bugs_of_conversions_show_in_no_call() {
+    for bug in ["clean", "nine", "further", "above"] {
         let rules = Rules::with_bug(bug).unwrap();
-        let name = line.split_once(' ').unwrap().0;
-        for (rules, answer) in [(Rules::default(), right), (rules, wrong)] {
-            let printed = made_by(line, rules);
-            assert!(
-                printed.ends_with(&format!("\n1 {name} {answer}\n")),
-                "{bug} {line}"
-            );
-        }
-        // No call on the pool shows it.
         for style in STYLES {
             let bytes = generated(1, 200, style);
             assert_eq!(listed(&bytes), listed_by(&bytes, rules), "{bug}");
@@ -2175,4 +2148,26 @@ fn protocol() {
     let mut unknown = bytes.clone();
     unknown[0] = 11;
     assert!(state::serve(&mut &unknown[..], &mut Vec::new(), &Rules::default()).is_err());
+}
+
+#[test]
+fn conversions_of_lent_numbers() {
+    let convert = |words: &[u32]| {
+        let bytes: Vec<u8> = words.iter().flat_map(|w| w.to_le_bytes()).collect();
+        let mut output = Vec::new();
+        state::convert(&mut &bytes[..], &mut output, &Rules::default()).map(|()| output)
+    };
+    let answers = |words: &[u32]| words.iter().flat_map(|w| w.to_le_bytes()).collect();
+    let asked = [0, 2, 77829, 0, 65541, 0, 1, 2, 5319, 0, 5319, 1 << 31];
+    let expected: Vec<u8> = answers(&[0, 5319, 0, 18, 0, 0, 0, 77829, 0, 18, 0, 0]);
+    assert_eq!(convert(&asked).unwrap(), expected);
+    // Cut input, an unknown direction and a word of more than 32 bits fail.
+    assert!(convert(&asked[..11]).is_err());
+    assert!(convert(&[2, 1, 0, 0]).is_err());
+    assert!(convert(&[0, 1, 0, 1]).is_err());
+}
+
+#[test]
+fn conversions_that_are_stored() {
+    assert_eq!(made_by(SV39_CALLS, Rules::default()), SV39_LINES);
 }

@@ -62,6 +62,7 @@ fn empty_input() {
     assert_eq!(good(&["decode"], b""), b"");
     assert_eq!(good(&["calls"], b""), b"line call answer first second\n");
     assert_eq!(good(&["state"], b""), b"");
+    assert_eq!(good(&["convert"], b""), b"");
     assert_eq!(good(&["entries"], b""), b"");
     assert!(good(&["stats"], b"").starts_with(b"records 0\nanswer_0 0\n"));
 }

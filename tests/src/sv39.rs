@@ -10,20 +10,11 @@ extern "C" {
     fn yavrestom_from_sv39(entry: u64, values: *mut u32, vn: usize) -> u32;
 }
 
+const NAMES: [&str; 2] = ["to_sv39", "from_sv39"];
+
 /// The rights that an entry can have, and those that it cannot.
 const LEAF: [u64; 5] = [1, 3, 4, 5, 7];
 const NO_LEAF: [u64; 3] = [0, 2, 6];
-
-/// Valid, accessed and dirty.
-const ALWAYS: [u32; 3] = [0, 6, 7];
-const RANGE: u32 = 8;
-const FRAME: u32 = 10;
-/// U, G, the other bit left to software, and what is above the frame.
-fn further() -> impl Iterator<Item = u32> {
-    [4, 5, 9].into_iter().chain(54..64)
-}
-/// The frame's bits above 4,095.
-const ABOVE: std::ops::Range<u32> = 22..54;
 
 /// A proved conversion, with a place of any length for the values.
 fn into(direction: u32, number: u64, values: &mut [u32]) -> u32 {
@@ -45,6 +36,15 @@ fn proved(direction: u32, number: u64) -> Answer {
         first: values[0],
         second: values[1],
     }
+}
+
+/// What the proved conversion answers, which must be this whatever the second program says.
+fn demanded(direction: u32, number: u64, converts: bool) -> Result<u32, String> {
+    let answer = proved(direction, number).number;
+    if answer != if converts { 0 } else { 18 } {
+        return Err(format!("{} {number:#x} answers {answer}", NAMES[direction as usize]));
+    }
+    Ok(answer)
 }
 
 /// What is asked in one direction, so many at a time.
@@ -81,7 +81,7 @@ impl Side {
         let theirs = second.convert(self.direction, &self.asked);
         for (number, theirs) in self.asked.iter().zip(theirs) {
             let ours = proved(self.direction, *number);
-            let what = ["to_sv39", "from_sv39"][self.direction as usize];
+            let what = NAMES[self.direction as usize];
             if ours != theirs {
                 return Err(format!("{what} {number:#x}: proved {ours:?}, second program {theirs:?}"));
             }
@@ -99,9 +99,22 @@ impl Side {
         self.asked.clear();
         Ok(())
     }
+
+    /// Answers what is left; as many must have been accepted.
+    fn finish(mut self, second: &mut Conversions, what: &str, accepted: u64) -> Result<(), String> {
+        self.answer(second)?;
+        println!("  {what}: {} asked, {} converted", self.done, self.accepted);
+        if self.accepted != accepted {
+            return Err(format!("{accepted} must convert"));
+        }
+        Ok(())
+    }
 }
 
-/// All words of 17 bits, of which 40,961 convert, and those with one bit more.
+/// How many words convert: 0, and those of five rights, two range bits and 4,096 frames.
+const CONVERTIBLE: u64 = 1 + 5 * 2 * 4096;
+
+/// All words of 17 bits, then those with one bit more, none of which converts.
 fn words(second: &mut Conversions, seen: &mut Seen) -> Result<(), String> {
     let mut side = Side::new(TO_SV39);
     for word in 0..1 << 17 {
@@ -112,25 +125,17 @@ fn words(second: &mut Conversions, seen: &mut Seen) -> Result<(), String> {
             1..=65_535 => ("outside".to_string(), false),
             _ => (format!("word_rights_{rights}"), LEAF.contains(&rights)),
         };
-        let number = proved(TO_SV39, word).number;
-        if number != if converts { 0 } else { 18 } {
-            return Err(format!("to_sv39 {word:#x} answers {number}"));
-        }
+        let number = demanded(TO_SV39, word, converts)?;
         seen.note(format!("{kind}_{number}"));
-    }
-    side.answer(second)?;
-    if side.accepted != 1 + 5 * 2 * 4096 {
-        return Err(format!("{} words convert", side.accepted));
     }
     for place in 17..32 {
         for word in 0..1 << 17 {
             side.ask(second, word | 1 << place)?;
         }
-        seen.note("past_layout_18");
+        let number = demanded(TO_SV39, 77_829 | 1 << place, false)?;
+        seen.note(format!("word_bit_{place}_{number}"));
     }
-    side.answer(second)?;
-    println!("  words: {} asked, {} converted", side.done, side.accepted);
-    Ok(())
+    side.finish(second, "words of 17 bits, and with one bit more", CONVERTIBLE)
 }
 
 /// All entries of 23 bits: frames up to 8,191, with all that stands below them.
@@ -139,84 +144,98 @@ fn small_entries(second: &mut Conversions) -> Result<(), String> {
     for entry in 0..1 << 23 {
         side.ask(second, entry)?;
     }
-    side.answer(second)?;
-    if side.accepted != 1 + 5 * 2 * 4096 {
-        return Err(format!("{} entries convert", side.accepted));
-    }
-    println!("  entries of 23 bits: {} asked, {} converted", side.done, side.accepted);
-    Ok(())
+    side.finish(second, "entries of 23 bits", CONVERTIBLE)
 }
 
-/// What a bit stands for, as the counts name it.
-fn kind(place: u32) -> &'static str {
+/// What a bit of an entry stands for.
+#[derive(Clone, Copy, PartialEq, Debug)]
+enum Kind {
+    Always,
+    Rights,
+    Range,
+    Frame,
+    Above,
+    Further,
+}
+
+fn kind(place: u32) -> Kind {
     match place {
-        1..=3 => "rights",
-        RANGE => "range",
-        FRAME..=21 => "frame",
-        p if ALWAYS.contains(&p) => "always",
-        p if ABOVE.contains(&p) => "above",
-        _ => "further",
+        0 | 6 | 7 => Kind::Always,
+        1..=3 => Kind::Rights,
+        8 => Kind::Range,
+        10..=21 => Kind::Frame,
+        22..=53 => Kind::Above,
+        _ => Kind::Further,
     }
 }
 
-/// Whether an entry converts that was one of a mapped page before some of its bits were flipped.
-fn converts_still(entry: u64, flipped: &[u32]) -> bool {
-    flipped.iter().all(|p| ["rights", "range", "frame"].contains(&kind(*p))) && LEAF.contains(&(entry >> 1 & 7))
+/// Whether a bit of that kind may be set or clear.
+fn is_free(place: u32) -> bool {
+    matches!(kind(place), Kind::Rights | Kind::Range | Kind::Frame)
+}
+
+/// Whether the entry of a mapped page still converts with these bits flipped.
+fn converts_still(flipped: u64, i: u32, j: u32) -> bool {
+    is_free(i) && is_free(j) && LEAF.contains(&(flipped >> 1 & 7))
+}
+
+/// The bits of an entry flipped singly (i is j) and two at a time.
+fn flips() -> impl Iterator<Item = (u32, u32)> {
+    (0..64).flat_map(|i| (i..64).map(move |j| (i, j)))
 }
 
 /// Every entry that converts, with each bit and each two bits flipped.
 fn flipped(second: &mut Conversions, seen: &mut Seen) -> Result<(), String> {
     let mut side = Side::new(FROM_SV39);
-    let mut by_place = [[0u64; 2]; 64];
-    let mut by_rights = [0u64; 8];
+    let mut counts = [[0u64; 19]; 64];
+    let mut rights = [0u64; 8];
+    let mut converted = 0;
     for word in (0..1 << 17).filter(|w| proved(TO_SV39, *w).number == 0) {
         let entry = u64::from(proved(TO_SV39, word).first);
-        for i in 0..64 {
-            for j in i..64 {
-                let near = entry ^ 1 << i ^ if i == j { 0 } else { 1 << j };
-                side.ask(second, near)?;
-                let number = proved(FROM_SV39, near).number;
-                let converts = entry != 0 && converts_still(near, &[i, j]);
-                if number != if converts { 0 } else { 18 } {
-                    return Err(format!("from_sv39 {near:#x} answers {number}"));
-                }
-                if i == j && entry != 0 {
-                    by_place[i as usize][usize::from(number == 18)] += 1;
-                    if (1..=3).contains(&i) {
-                        by_rights[(near >> 1 & 7) as usize] += 1;
-                    }
-                }
+        for (i, j) in flips() {
+            let near = entry ^ 1 << i ^ u64::from(i != j) << j;
+            side.ask(second, near)?;
+            let number = demanded(FROM_SV39, near, entry != 0 && converts_still(near, i, j))?;
+            converted += u64::from(number == 0);
+            if i == j && entry != 0 {
+                counts[i as usize][number as usize] += 1;
+                rights[(near >> 1 & 7) as usize] += u64::from(kind(i) == Kind::Rights);
             }
         }
     }
-    side.answer(second)?;
+    if side.done + side.asked.len() as u64 != CONVERTIBLE * (64 + 64 * 63 / 2) {
+        return Err(format!("{} entries with flipped bits", side.done));
+    }
     for place in 0..64 {
-        let [accepted, refused] = by_place[place as usize];
-        seen.add(format!("{}_{place}_0", kind(place)), accepted);
-        seen.add(format!("{}_{place}_18", kind(place)), refused);
+        for number in [0, 18] {
+            seen.add(flip(place, number), counts[place as usize][number]);
+        }
     }
-    for rights in 0..8 {
-        seen.add(format!("entry_rights_{rights}"), by_rights[rights]);
+    for r in 0..8 {
+        seen.add(format!("entry_rights_{r}"), rights[r]);
     }
-    println!("  entries with one or two bits flipped: {} asked, {} converted", side.done, side.accepted);
-    Ok(())
+    side.finish(second, "entries that convert, with one or two bits flipped", converted)
+}
+
+/// One bit flipped in entries of mapped pages, as the counts name it.
+fn flip(place: u32, number: usize) -> String {
+    format!("{:?}_{place}_{number}", kind(place)).to_lowercase()
 }
 
 /// Random numbers of 64 and 32 bits, and near entries.
 fn random(second: &mut Conversions, count: u64, seed: u64) -> Result<(), String> {
+    println!("  random: {count} words, {count} entries and {count} with V, A and D set, seed {seed}");
     let mut r = Random::new(seed);
     let mut entries = Side::new(FROM_SV39);
     let mut words = Side::new(TO_SV39);
     for _ in 0..count {
         entries.ask(second, r.next())?;
-        // a random number is hardly ever near an entry that converts, so: V, A and D set, and a few other bits
+        // a random number is hardly ever near an entry that converts, so few other bits are set
         entries.ask(second, 0xc1 | r.next() & r.next() & r.next())?;
         words.ask(second, u64::from(r.word()))?;
     }
     entries.answer(second)?;
-    words.answer(second)?;
-    println!("  random: {} entries, {} words, seed {seed}", entries.done, words.done);
-    Ok(())
+    words.answer(second)
 }
 
 /// A place of another length than two words: 1, and nothing is written.
@@ -237,15 +256,13 @@ fn places(seen: &mut Seen) -> Result<(), String> {
 
 /// What must have been reached: each cause of a refusal by itself, and each bit that may be set or clear.
 fn must() -> Vec<String> {
-    let mut must: Vec<String> = ["unmapped_0", "outside_18", "past_layout_18"].map(String::from).to_vec();
+    let mut must: Vec<String> = ["unmapped_0", "outside_18"].map(String::from).to_vec();
     must.extend(LEAF.iter().map(|r| format!("word_rights_{r}_0")));
     must.extend(NO_LEAF.iter().map(|r| format!("word_rights_{r}_18")));
+    must.extend((17..32).map(|p| format!("word_bit_{p}_18")));
     must.extend((0..8).map(|r| format!("entry_rights_{r}")));
-    must.extend(ALWAYS.iter().map(|p| format!("always_{p}_18")));
-    must.extend(further().map(|p| format!("further_{p}_18")));
-    must.extend(ABOVE.map(|p| format!("above_{p}_18")));
-    must.extend((FRAME..22).map(|p| format!("frame_{p}_0")));
-    must.extend([format!("range_{RANGE}_0")]);
+    must.extend((0..64).filter(|p| is_free(*p)).map(|p| flip(p, 0)));
+    must.extend((0..64).filter(|p| !is_free(*p)).map(|p| flip(p, 18)));
     must.extend([0, 1, 3, 4].map(|n| format!("place_of_{n}")));
     must
 }
@@ -260,7 +277,7 @@ pub fn compare(count: u64, seed: u64) -> bool {
         .and_then(|()| flipped(&mut second, &mut seen))
         .and_then(|()| random(&mut second, count, seed));
     if let Err(what) = compared {
-        println!("{what}");
+        println!("{what}\n  again: compare sv39 {count} {seed}");
         return false;
     }
     seen.report(&must())

@@ -35,7 +35,7 @@ pub fn reserved_rights(rights: u32) -> bool
     rights == WRITE_EXECUTE
 }
 
-// Whether rights are allowed, in a call, a page word or an entry of a unit.
+// Whether rights are allowed, in a call, a page word, an entry of a unit or an Sv39 entry.
 pub fn allowed_rights(rights: u32) -> bool
     ensures { λ r. ⌜ r ≡ allowedRights rights ⌝ }
 {

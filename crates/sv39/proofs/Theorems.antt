@@ -1,7 +1,7 @@
 -- The theorems on the conversions.
 use mathlib.Core.Path.{_≡_, refl, ap, _∙_, sym}
 use mathlib.Core.Bool.{Bool, true, false}
-use mathlib.Core.Logic.{_⊎_, inl, inr, ⊎-elim}
+use mathlib.Core.Logic.{inl, inr, ⊎-elim}
 use Prim.Native.Nat.{ℕ}
 use native.Mathlib.Omega.{arith}
 use lib.Dec.{eqb, ltb}
@@ -33,8 +33,8 @@ converts P refused v to from =
     }
 
 -- rights
-leaf-rights : (r : ℕ) → allowedRights r ≡ true → (r ≡ 0 → ⊥) → LeafRights r
-leaf-rights r a nz =
+rights-have-leaf : (r : ℕ) → allowedRights r ≡ true → (r ≡ 0 → ⊥) → LeafRights r
+rights-have-leaf r a nz =
     let low = allowed-low r a in
     let n = not-reserved r a in
     let not-two = n .0 in
@@ -56,62 +56,59 @@ rights-leaf r (inr (inr (inr (inl e)))) = (rw e refl, λ z. omega arith)
 rights-leaf r (inr (inr (inr (inr e)))) = (rw e refl, λ z. omega arith)
 
 -- a word so made, in the papers' numbers
-made-leaf : (w : ℕ) → Made pageWord w → LeafWord w
+leaf-of-word : (w : ℕ) → Made pageWord w → LeafWord w
 unfolding pageWord
-made-leaf w m = record { range = m .range; rights = m .rights; frame = m .frame; has-leaf = leaf-rights _ (m .allowed) (m .some); fits = m .fits; is = m .is }
+leaf-of-word w m = record { range = m .range; rights = m .rights; frame = m .frame; has-leaf = rights-have-leaf _ (m .allowed) (m .some); fits = m .fits; is = m .is }
 
-leaf-made : (w : ℕ) → LeafWord w → Made pageWord w
+unfoldable word-of-leaf : (w : ℕ) → LeafWord w → Made pageWord w
 unfolding pageWord
-leaf-made w l =
+word-of-leaf w l =
     let r = rights-leaf (l .rights) (l .has-leaf) in
     record { range = l .range; rights = l .rights; frame = l .frame; allowed = r .0; some = r .1; fits = l .fits; is = l .is }
 
-made-converts : (w : ℕ) → Made pageWord w → noEntry w ≡ false
-made-converts w m = ap noEntry (m .is) ∙ word-converts (m .range) (m .rights) (m .frame) (m .allowed) (m .some) (m .fits)
+leaf-converts : (w : ℕ) → Made pageWord w → noEntry w ≡ false
+leaf-converts w m = ap noEntry (m .is) ∙ word-converts (m .range) (m .rights) (m .frame) (m .allowed) (m .some) (m .fits)
 
 pub words-convert : WordsConvert
 unfolding WordsConvert toSv39
 words-convert w =
     converts _ (noEntry w) (entryOf w)
-    (λ f. ⊎-elim (λ z. inl z) (λ m. inr (made-leaf w m)) (word-made w f))
-    (λ p. ⊎-elim (λ z. ap noEntry z ∙ zero-word) (λ l. made-converts w (leaf-made w l)) p)
+    (λ f. ⊎-elim (λ z. inl z) (λ m. inr (leaf-of-word w m)) (word-made w f))
+    (λ p. ⊎-elim (λ z. ap noEntry z ∙ zero-word) (λ l. leaf-converts w (word-of-leaf w l)) p)
 
 pub unmapped-is-zero : UnmappedIsZero
 unfolding UnmappedIsZero
 unmapped-is-zero = (to-zero 0 refl, from-zero 0 refl)
 
 -- what a word so made converts to
-made-entry : (w : ℕ) (m : Made pageWord w) → toSv39 w ≡ values (leaf (m .range) (m .rights) (m .frame)) 0
-made-entry w m = ap toSv39 (m .is) ∙ to-entry (m .range) (m .rights) (m .frame) (m .allowed) (m .some) (m .fits)
+word-to-entry : (w : ℕ) (m : Made pageWord w) → toSv39 w ≡ values (leaf (m .range) (m .rights) (m .frame)) 0
+word-to-entry w m = ap toSv39 (m .is) ∙ to-entry (m .range) (m .rights) (m .frame) (m .allowed) (m .some) (m .fits)
 
 pub each-bit : EachBit
-unfolding EachBit pageWord
-each-bit w l i =
-    let r = rights-leaf (l .rights) (l .has-leaf) in
-    let e = ap toSv39 (l .is) ∙ to-entry (l .range) (l .rights) (l .frame) (r .0) (r .1) (l .fits) in
-    ap (λ (o : Outcome). hasBit (o .first) i) e ∙ leaf-bit (l .range) (l .rights) (l .frame) i
+unfolding EachBit word-of-leaf
+each-bit w l i = ap (λ (o : Outcome). hasBit (o .first) i) (word-to-entry w (word-of-leaf w l)) ∙ leaf-bit (l .range) (l .rights) (l .frame) i
 
 pub words-return : WordsReturn
 unfolding WordsReturn toSv39
 words-return w z =
     ⊎-elim
     (λ e. ap (λ (o : Outcome). fromSv39 (o .first)) (to-zero w e) ∙ from-zero 0 refl ∙ ap (λ (x : ℕ). values x 0) (sym e))
-    (λ m. ap (λ (o : Outcome). fromSv39 (o .first)) (made-entry w m) ∙ to-word (m .range) (m .rights) (m .frame) (m .allowed) (m .some) (m .fits) ∙ ap (λ (x : ℕ). values x 0) (sym (m .is)))
+    (λ m. ap (λ (o : Outcome). fromSv39 (o .first)) (word-to-entry w m) ∙ to-word (m .range) (m .rights) (m .frame) (m .allowed) (m .some) (m .fits) ∙ ap (λ (x : ℕ). values x 0) (sym (m .is)))
     (word-made w (accepted-only _ _ z))
 
 -- what an entry so made converts to
-made-word : (e : ℕ) (m : Made leaf e) → fromSv39 e ≡ values (pageWord (m .range) (m .rights) (m .frame)) 0
-made-word e m = ap fromSv39 (m .is) ∙ to-word (m .range) (m .rights) (m .frame) (m .allowed) (m .some) (m .fits)
+entry-to-word : (e : ℕ) (m : Made leaf e) → fromSv39 e ≡ values (pageWord (m .range) (m .rights) (m .frame)) 0
+entry-to-word e m = ap fromSv39 (m .is) ∙ to-word (m .range) (m .rights) (m .frame) (m .allowed) (m .some) (m .fits)
 
-made-back : (e : ℕ) (m : Made leaf e) → toSv39 (pageWord (m .range) (m .rights) (m .frame)) ≡ values e 0
-made-back e m = to-entry (m .range) (m .rights) (m .frame) (m .allowed) (m .some) (m .fits) ∙ ap (λ (x : ℕ). values x 0) (sym (m .is))
+entry-back : (e : ℕ) (m : Made leaf e) → toSv39 (pageWord (m .range) (m .rights) (m .frame)) ≡ values e 0
+entry-back e m = to-entry (m .range) (m .rights) (m .frame) (m .allowed) (m .some) (m .fits) ∙ ap (λ (x : ℕ). values x 0) (sym (m .is))
 
 pub entries-return : EntriesReturn
 unfolding EntriesReturn fromSv39
 entries-return e bits z =
     ⊎-elim
     (λ h. ap (λ (o : Outcome). toSv39 (o .first)) (from-zero e h) ∙ to-zero 0 refl ∙ ap (λ (x : ℕ). values x 0) (sym h))
-    (λ m. ap (λ (o : Outcome). toSv39 (o .first)) (made-word e m) ∙ made-back e m)
+    (λ m. ap (λ (o : Outcome). toSv39 (o .first)) (entry-to-word e m) ∙ entry-back e m)
     (entry-made e bits (accepted-only _ _ z))
 
 from-word : (e : ℕ) → FromWord e → noWord e ≡ false
@@ -121,14 +118,14 @@ from-word e p =
     let first : toSv39 w .first ≡ e = ap (λ (o : Outcome). o .first) (p .converts) in
     ⊎-elim
     (λ z. ap noWord (sym first ∙ ap (λ (o : Outcome). o .first) (to-zero w z)) ∙ zero-entry)
-    (λ m. ap noWord (sym first ∙ ap (λ (o : Outcome). o .first) (made-entry w m)) ∙ entry-converts (m .range) (m .rights) (m .frame) (m .allowed) (m .some) (m .fits))
+    (λ m. ap noWord (sym first ∙ ap (λ (o : Outcome). o .first) (word-to-entry w m)) ∙ entry-converts (m .range) (m .rights) (m .frame) (m .allowed) (m .some) (m .fits))
     (word-made w (accepted-only _ _ (ap (λ (o : Outcome). o .number) (p .converts))))
 
 pub entries-convert : EntriesConvert
 unfolding EntriesConvert fromSv39
 entries-convert e bits =
     converts _ (noWord e) (wordOf e)
-    (λ f. ⊎-elim (λ z. record { word = 0; converts = to-zero 0 refl ∙ ap (λ (x : ℕ). values x 0) (sym z) }) (λ m. record { word = pageWord (m .range) (m .rights) (m .frame); converts = made-back e m }) (entry-made e bits f))
+    (λ f. ⊎-elim (λ z. record { word = 0; converts = to-zero 0 refl ∙ ap (λ (x : ℕ). values x 0) (sym z) }) (λ m. record { word = pageWord (m .range) (m .rights) (m .frame); converts = entry-back e m }) (entry-made e bits f))
     (from-word e)
 
 pub word-examples : WordExamples

@@ -46,6 +46,10 @@ leaf range rights frame =
     bitAt valid true + bitAt read (hasBit rights 0) + bitAt write (hasBit rights 1) + bitAt execute (hasBit rights 2) + bitAt accessed true + bitAt dirty true + bitAt inRange range
     + 2 ^ frameFrom * frame
 
+-- "unmapped is an all-zero entry"
+unfoldable pub entryOf : ℕ → ℕ
+entryOf w = elim (eqb w 0) [ true ↦ 0 | false ↦ leaf (rangeBit w) (rightsIn w) (frameIn w) ]
+
 -- the rights and the frame that an entry gives
 unfoldable pub rightsOf : ℕ → ℕ
 rightsOf e = bitAt 0 (hasBit e read) + bitAt 1 (hasBit e write) + bitAt 2 (hasBit e execute)
@@ -53,21 +57,17 @@ rightsOf e = bitAt 0 (hasBit e read) + bitAt 1 (hasBit e write) + bitAt 2 (hasBi
 unfoldable pub frameOf : ℕ → ℕ
 frameOf e = e / 2 ^ frameFrom % 2 ^ frameBits
 
--- "a further bit is set": 4 and 5, the standard's U and G; 9, the other bit left to software; the ten bits above the frame, 54 to 63
-unfoldable pub furtherBit : ℕ → Bool
-furtherBit e = hasBit e 4 || (hasBit e 5 || (hasBit e 9 || anyFrom 10 54 (hasBit e)))
+-- and an all-zero entry is unmapped
+unfoldable pub wordOf : ℕ → ℕ
+wordOf e = elim (eqb e 0) [ true ↦ 0 | false ↦ pageWord (hasBit e inRange) (rightsOf e) (frameOf e) ]
 
 -- "A word with rights 0 has no leaf form."
 unfoldable pub noLeaf : ℕ → Bool
 noLeaf w = mapped w && eqb (rightsIn w) 0
 
--- "no counterpart, or a word outside its layout"
-unfoldable pub noEntry : ℕ → Bool
-noEntry w = not (isPageWord w) || noLeaf w
-
--- "unmapped is an all-zero entry"
-unfoldable pub entryOf : ℕ → ℕ
-entryOf w = elim (eqb w 0) [ true ↦ 0 | false ↦ leaf (rangeBit w) (rightsIn w) (frameIn w) ]
+-- "a further bit is set": 4 and 5, the standard's U and G; 9, the other bit left to software; the ten bits above the frame, 54 to 63
+unfoldable pub furtherBit : ℕ → Bool
+furtherBit e = hasBit e 4 || (hasBit e 5 || (hasBit e 9 || anyFrom 10 54 (hasBit e)))
 
 -- "Any other entry has no word if valid, accessed or dirty is clear, a further bit is set, the frame is above 4,095, or its rights are 0, 2 or 6."
 unfoldable pub noWord : ℕ → Bool
@@ -75,8 +75,9 @@ noWord e =
     not (eqb e 0)
     && (not (hasBit e valid) || (not (hasBit e accessed) || (not (hasBit e dirty) || (furtherBit e || (ltb 4095 (frameOf e) || (eqb (rightsOf e) 0 || reservedRights (rightsOf e)))))))
 
-unfoldable pub wordOf : ℕ → ℕ
-wordOf e = elim (eqb e 0) [ true ↦ 0 | false ↦ pageWord (hasBit e inRange) (rightsOf e) (frameOf e) ]
+-- "no counterpart, or a word outside its layout"
+unfoldable pub noEntry : ℕ → Bool
+noEntry w = not (isPageWord w) || noLeaf w
 
 -- "Refused: 18, no counterpart, or a word outside its layout; the only check here." Accepted, the counterpart is the first value (docs/DECISIONS.md, 103), and the second is "0 if unnamed" (01)
 unfoldable pub converted : Bool → ℕ → Outcome

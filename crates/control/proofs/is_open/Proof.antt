@@ -2,7 +2,6 @@ use borrow.Author.Needs.{needs}
 use Rattle.control.proofs.is_open.Statement.{statement}
 use Rattle.control.proofs.is_open.Tie as tie
 use mathlib.Core.Path.{refl}
-use Prim.Native.Nat.{_-_}
 use Rattle.words.specs.Bits.{hasBit}
 use Rattle.control.specs.Control.{isOpen}
 
