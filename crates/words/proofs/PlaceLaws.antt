@@ -6,7 +6,7 @@ use Prim.Native.Nat.{ℕ}
 use lib.ListN.{length, set}
 use borrow.Author.Tests.{eq-eqb, ne-eqb}
 use Rattle.words.specs.declared.Outcome.{Outcome}
-use Rattle.words.specs.Places.{isPlace, placed, Given}
+use Rattle.words.specs.Places.{isPlace, placed, Given, PlaceExamples}
 use Rattle.words.proofs.WriteLaws.{put-all}
 
 module _ (vs : List ℕ) where
@@ -39,3 +39,7 @@ module _ (o : Outcome) (vs : List ℕ) where
 
 pub given-same : (o p : Outcome) → o ≡ p → (vs : List ℕ) (r : ℕ) (vs′ : List ℕ) → Given o vs r vs′ → Given p vs r vs′
 given-same o p e vs r vs′ g = subst (λ (x : Outcome). Given x vs r vs′) e g
+
+pub place-examples : PlaceExamples
+unfolding PlaceExamples placed isPlace
+place-examples = (refl, (refl, (refl, refl)))

@@ -6,6 +6,7 @@ use Prim.Native.Nat.{ℕ}
 use lib.Dec.{eqb}
 use lib.ListN.{length}
 use Rattle.words.specs.declared.Outcome.{Outcome}
+use Rattle.words.specs.Rows.{refusal, values}
 
 -- the words of the place for the two values
 abbrev pub valueWords : ℕ
@@ -23,3 +24,9 @@ placed vs o = elim (isPlace vs) [ true ↦ o .first ∷ o .second ∷ [] | false
 pub record Given (o : Outcome) (vs : List ℕ) (r : ℕ) (vs′ : List ℕ) : Type 0 where
   pub returned : r ≡ elim (isPlace vs) [ true ↦ o .number | false ↦ 1 ]
   pub left : vs′ ≡ placed vs o
+
+-- examples: values, and the zeros of a refusal, in a place of two words; words of another length
+unfoldable pub PlaceExamples : Type 0
+PlaceExamples =
+    (placed (8 ∷ 9 ∷ []) (values 5 6) ≡ 5 ∷ 6 ∷ [])
+    × ((placed (8 ∷ 9 ∷ []) (refusal 18) ≡ 0 ∷ 0 ∷ []) × ((placed (8 ∷ []) (values 5 6) ≡ 8 ∷ []) × (placed (7 ∷ 8 ∷ 9 ∷ []) (values 5 6) ≡ 7 ∷ 8 ∷ 9 ∷ [])))
