@@ -12,7 +12,7 @@ use Rattle.words.specs.Rows.{refusal, values}
 use Rattle.words.specs.Searches.{anyFrom}
 use Rattle.words.specs.Tables.{tabFrom}
 use Rattle.words.proofs.BitLaws.{number, number-bits, none-above, below}
-use Rattle.words.proofs.Cases.{by-test, true-false, or-false}
+use Rattle.words.proofs.Cases.{by-test, true-false, or-false, false-or, and-false}
 use Rattle.runs.specs.PageWords.{reservedRights, allowedRights, pageWord, mapped, rangeBit, rightsIn, frameIn, isPageWord}
 use Rattle.runs.proofs.WordLaws.{allowed-low, allowed-unreserved, allowed-by, mapped-word, word-says, made-word, made-bit, word-parts, frame-lt, zero-unmapped}
 use Rattle.sv39.specs.Entries.{leaf, rightsOf, frameOf, furtherBit, noLeaf, noEntry, entryOf, noWord, wordOf, converted, toSv39, fromSv39}
@@ -82,7 +82,7 @@ module _ (b : Bool) (r f : ℕ) (allowed : allowedRights r ≡ true) (some : r �
   word-converts =
       let s = made-word b r f allowed fits in
       let layout : isPageWord (pageWord b r f) ≡ true = mapped-word _ (s .maps) (ap allowedRights (s .rights) ∙ allowed) in
-      rw (layout, s .maps, s .rights, ne-eqb r 0 some) refl
+      false-or _ _ (ap not layout) (and-false (mapped (pageWord b r f)) _ (ap (λ (x : ℕ). eqb x 0) (s .rights) ∙ ne-eqb r 0 some))
 
   pub to-entry : toSv39 (pageWord b r f) ≡ values (leaf b r f) 0
   to-entry =
@@ -93,13 +93,21 @@ module _ (b : Bool) (r f : ℕ) (allowed : allowedRights r ≡ true) (some : r �
   not-zero : leaf b r f ≡ 0 → ⊥
   not-zero z = omega (arith, leaf-sum b r f low)
 
-  pub entry-converts : noWord (leaf b r f) ≡ false
-  unfolding noWord furtherBit leafBit flagBits
-  entry-converts =
+  no-further : furtherBit (leaf b r f) ≡ false
+  unfolding furtherBit leafBit flagBits
+  no-further =
       let at : (i : ℕ) → hasBit (leaf b r f) i ≡ leafBit b r f i = leaf-bit b r f in
       let top : anyFrom 10 54 (hasBit (leaf b r f)) ≡ false = none-above (leaf b r f) 54 (omega (arith, leaf-lt b r f low fits)) 10 in
+      false-or _ _ (at 4) (false-or _ _ (at 5) (false-or _ _ (at 9) top))
+
+  pub entry-converts : noWord (leaf b r f) ≡ false
+  unfolding noWord leafBit flagBits
+  entry-converts =
+      let at : (i : ℕ) → hasBit (leaf b r f) i ≡ leafBit b r f i = leaf-bit b r f in
       let frame : ltb 4095 (frameOf (leaf b r f)) ≡ false = le-ltb 4095 (frameOf (leaf b r f)) (omega (arith, leaf-frame b r f low fits)) in
-      rw (ne-eqb (leaf b r f) 0 not-zero, at 0, at 6, at 7, at 4, at 5, at 9, top, frame, leaf-rights b r f low fits, ne-eqb r 0 some, allowed-unreserved r allowed) refl
+      let e = leaf-rights b r f low fits in
+      let rights = false-or _ _ (ap (λ (x : ℕ). eqb x 0) e ∙ ne-eqb r 0 some) (ap reservedRights e ∙ allowed-unreserved r allowed) in
+      and-false (not (eqb (leaf b r f) 0)) _ (false-or _ _ (ap not (at 0)) (false-or _ _ (ap not (at 6)) (false-or _ _ (ap not (at 7)) (false-or _ _ no-further (false-or _ _ frame rights)))))
 
   pub to-word : fromSv39 (leaf b r f) ≡ values (pageWord b r f) 0
   unfolding leafBit flagBits

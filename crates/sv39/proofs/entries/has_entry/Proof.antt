@@ -2,6 +2,7 @@ use borrow.Author.Needs.{needs}
 use mathlib.Core.Path.{ap, _∙_, sym}
 use mathlib.Core.Bool.{not}
 use borrow.Author.Tests.{not-true, not-false}
+use Rattle.runs.specs.PageWords.{allowedRights}
 use Rattle.sv39.proofs.EntryLaws.{no-entry-unmapped, no-entry-rights, allowed-entry}
 use Rattle.sv39.proofs.entries.has_entry.Statement.{statement}
 use Rattle.sv39.proofs.entries.has_entry.Tie as tie
@@ -27,7 +28,7 @@ returns-3 : tie.Need-returns-3
 returns-3 c =
     let m = sym (c .before .before .before .before .mapped .ensures) ∙ not-false _ (c .before .before .before .if1 .left) in
     let e = c .before .before .rights-in .ensures in
-    rw e at (c .allowed-rights .ensures) ∙ allowed-entry _ (c .before .before .before .before .before .pre) m (λ h. c .before .if2 .left (e ∙ h))
+    c .allowed-rights .ensures ∙ ap allowedRights e ∙ allowed-entry _ (c .before .before .before .before .before .pre) m (λ h. c .before .if2 .left (e ∙ h))
 
 pub has-entry-spec : {M : Type 1} → statement M
 has-entry-spec =

@@ -3,6 +3,7 @@ use native.Mathlib.Omega.{arith}
 use mathlib.Core.Path.{refl, ap, _∙_, sym}
 use mathlib.Core.Bool.{not}
 use borrow.Author.Tests.{eq-eqb, ne-eqb}
+use Rattle.runs.specs.PageWords.{allowedRights}
 use Rattle.sv39.proofs.EntryLaws.{no-word-low, no-word-high, low-allowed}
 use Rattle.sv39.proofs.entries.has_word.Statement.{statement}
 use Rattle.sv39.proofs.entries.has_word.Tie as tie
@@ -33,7 +34,7 @@ returns-4 : tie.Need-returns-4
 returns-4 c =
     let e = c .before .before .rights-of .ensures in
     let low = no-word-low (c .before .before .before .before .before .before .args .entry) (c .before .before .before .before .before .before .pre) (omega (arith, c .before .before .before .before .before .if1 .left)) in
-    rw (low, sym (c .before .before .before .before .wrong-flags .ensures) ∙ c .before .before .before .if2 .left, ne-eqb _ _ (λ h. c .before .if3 .left (e ∙ h))) (rw e at (c .allowed-rights .ensures) ∙ low-allowed _)
+    rw (low, sym (c .before .before .before .before .wrong-flags .ensures) ∙ c .before .before .before .if2 .left, ne-eqb _ _ (λ h. c .before .if3 .left (e ∙ h))) (c .allowed-rights .ensures ∙ ap allowedRights e ∙ low-allowed _)
 
 pub has-word-spec : {M : Type 1} → statement M
 has-word-spec =
