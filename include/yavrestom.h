@@ -86,7 +86,8 @@ uint32_t yavrestom_close(uint32_t *control, size_t control_words, uint32_t *fram
                          uint32_t *pages, size_t pages_words, uint32_t *ranges, size_t ranges_words,
                          uint32_t space, uint32_t *values, size_t values_words);
 
-/* Maps `count` pages from `first` on, with the rights asked, to the frames that the map rule takes.
+/* Maps `count` pages from `first` on, with the rights asked, to the frames that the map rule takes. Its wish is the
+ * frame after that of the page before `first`, if that is mapped.
  * Values: blocks taken, 0. Refused: 1, 2, 5, 6, 17, 8, 10, 11, 14. */
 uint32_t yavrestom_map(const uint32_t *control, size_t control_words, uint32_t *frames, size_t frames_words,
                        uint32_t *pages, size_t pages_words, uint32_t *ranges, size_t ranges_words,

@@ -13,6 +13,7 @@ pub enum Style {
     Sleep,
     Fragment,
     Big,
+    Grow,
     Garbage,
 }
 
@@ -23,6 +24,7 @@ impl Style {
             "sleep" => Style::Sleep,
             "fragment" => Style::Fragment,
             "big" => Style::Big,
+            "grow" => Style::Grow,
             "garbage" => Style::Garbage,
             _ => return None,
         })
@@ -42,6 +44,7 @@ pub fn generate<W: Write>(seed: u64, n: u64, style: Style, output: &mut W) -> io
         Style::Sleep => maker.sleep(),
         Style::Fragment => maker.fragment(),
         Style::Big => maker.big(),
+        Style::Grow => maker.grow(),
         Style::Garbage => maker.garbage(),
     };
     match end {
@@ -91,6 +94,20 @@ type Step<T> = Result<T, Stop>;
 
 /// A stretch of pages: first page and count.
 type Stretch = (u16, u16);
+
+/// A buffer that grows: its space, first page and the room it has there.
+#[derive(Clone, Copy)]
+struct Buffer {
+    space: u16,
+    first: u16,
+    room: u16,
+}
+
+/// Space and page that hold a frame, by its word.
+fn page_of(held: u32) -> (u16, u16) {
+    let owner = held as u16 - 1;
+    (owner / 1024, owner % 1024)
+}
 
 struct Maker<'a, W> {
     random: Random,
@@ -847,6 +864,209 @@ impl<W: Write> Maker<'_, W> {
         };
         let rights = self.random.pick(&[3, 3, 7, 1]);
         self.call(MAP, &[space, first, count, rights])
+    }
+
+    /// Buffers are extended in steps and in turns, on pools that break up.
+    fn grow(&mut self) -> Step<()> {
+        loop {
+            // Small, and mostly no powers of two.
+            let size = self.random.among(9, 140);
+            let size = self
+                .random
+                .pick(&[size, size, size, 12, 21, 30, 43, 60, 64, 100]);
+            self.call(SETUP, &[size])?;
+            self.open_all()?;
+            let buffers = self.buffers();
+            for turn in 0..self.random.among(30, 100) as usize {
+                let buffer = buffers[turn % buffers.len()];
+                if self.free_frames() < self.random.among(0, 8) {
+                    let other = self.random.pick(&buffers);
+                    self.shrink(other)?;
+                }
+                match self.random.below(100) {
+                    0..=29 => self.extend(buffer)?,
+                    30..=41 => self.shrink(buffer)?,
+                    42..=50 => self.mend(buffer)?,
+                    51..=58 => self.extend_into(buffer)?,
+                    59..=69 => self.protect_last(buffer)?,
+                    70..=81 => self.page_zero()?,
+                    82..=89 => self.extend_highest()?,
+                    90..=97 => self.look_around(1)?,
+                    _ => {
+                        self.call(CLOSE, &[buffer.space])?;
+                        self.call(OPEN, &[buffer.space])?;
+                    }
+                }
+            }
+        }
+    }
+
+    /// Places of some buffers, apart from one another; the last one may end at the
+    /// last page.
+    fn buffers(&mut self) -> Vec<Buffer> {
+        let mut all = Vec::new();
+        for i in 0..self.random.among(3, 6) {
+            all.push(Buffer {
+                space: self.random.among(0, 3),
+                first: 150 * i + self.random.among(1, 20),
+                room: 120,
+            });
+        }
+        let room = self.random.among(8, 30);
+        all.push(Buffer {
+            space: self.random.among(0, 3),
+            first: 1024 - room,
+            room,
+        });
+        all
+    }
+
+    /// The page after a buffer's last mapped one.
+    fn end_of(&self, buffer: Buffer) -> u16 {
+        let pages = buffer.first..buffer.first + buffer.room;
+        let last = pages.rev().find(|&p| self.word(buffer.space, p) != 0);
+        last.map_or(buffer.first, |p| p + 1)
+    }
+
+    /// Maps at most `room` pages, mostly with the rights of the page before.
+    fn step(&mut self, space: u16, first: u16, room: u16) -> Step<()> {
+        let before = match first {
+            0 => 0,
+            _ => self.word(space, first - 1),
+        };
+        let rights = match before == 0 || self.random.one_in(4) {
+            true => self.rights(),
+            false => rights_of(before) as u16,
+        };
+        self.step_with(space, first, room, rights)
+    }
+
+    /// Maps at most `room` pages, and looks at one of them mostly.
+    fn step_with(&mut self, space: u16, first: u16, room: u16, rights: u16) -> Step<()> {
+        let free = self.free_frames();
+        let most = match self.random.one_in(20) {
+            true => room,
+            false => room.min(free),
+        };
+        if most == 0 {
+            return Ok(());
+        }
+        let count = self
+            .random
+            .pick(&[1, 1, 2, 2, 3, 4, 4, 5, 7, 8, 8, 9, 12, 16]);
+        let count = count.min(most);
+        if self.call(MAP, &[space, first, count, rights])? && !self.random.one_in(3) {
+            let page = first + self.random.pick(&[0, 0, count / 2, count - 1]);
+            let (unit, access) = (self.unit(), self.likely_access(space, page));
+            self.call(TRANSLATE, &[unit, space, page, access])?;
+        }
+        Ok(())
+    }
+
+    /// Extends a buffer just after its last page.
+    fn extend(&mut self, buffer: Buffer) -> Step<()> {
+        let end = self.end_of(buffer);
+        let room = buffer.first + buffer.room - end;
+        if room == 0 {
+            return self.shrink(buffer);
+        }
+        self.step(buffer.space, end, room)
+    }
+
+    /// Unmaps a page or a span of a buffer.
+    fn shrink(&mut self, buffer: Buffer) -> Step<()> {
+        let end = self.end_of(buffer);
+        let inside = |s: &Stretch| buffer.first <= s.0 && s.0 < end;
+        let all = self.stretches(buffer.space, true);
+        let all: Vec<Stretch> = all.into_iter().filter(inside).collect();
+        if all.is_empty() {
+            return Ok(());
+        }
+        let stretch = self.random.pick(&all);
+        let most = self.random.pick(&[1, 1, 2, 4, 9, 30]);
+        let (first, count) = self.part(stretch, most);
+        self.call(UNMAP, &[buffer.space, first, count])?;
+        Ok(())
+    }
+
+    /// Maps in a gap of a buffer.
+    fn mend(&mut self, buffer: Buffer) -> Step<()> {
+        let end = self.end_of(buffer);
+        let inside = |s: &Stretch| buffer.first < s.0 && s.0 < end;
+        let gaps = self.stretches(buffer.space, false);
+        let gaps: Vec<Stretch> = gaps.into_iter().filter(inside).collect();
+        if gaps.is_empty() {
+            return self.extend(buffer);
+        }
+        let (first, count) = self.random.pick(&gaps);
+        self.step(buffer.space, first, count)
+    }
+
+    /// Frees the frame after that of a mapped page, where another page holds it.
+    fn free_after(&mut self, space: u16, page: u16) -> Step<()> {
+        let frame = frame_of(self.word(space, page)) as usize + 1;
+        match self.core.buffers.frames.get(frame) {
+            Some(&word) if is_held(word) => {
+                let (space, page) = page_of(word);
+                self.call(UNMAP, &[space, page, 1])?;
+            }
+            _ => {}
+        }
+        Ok(())
+    }
+
+    /// Extends a buffer where the next frame has just become free.
+    fn extend_into(&mut self, buffer: Buffer) -> Step<()> {
+        let end = self.end_of(buffer);
+        if end > buffer.first {
+            self.free_after(buffer.space, end - 1)?;
+        }
+        self.extend(buffer)
+    }
+
+    /// Gives a buffer's last page other rights and extends it with the former ones.
+    fn protect_last(&mut self, buffer: Buffer) -> Step<()> {
+        let end = self.end_of(buffer);
+        let room = buffer.first + buffer.room - end;
+        if end == buffer.first || room == 0 {
+            return self.extend(buffer);
+        }
+        let former = rights_of(self.word(buffer.space, end - 1)) as u16;
+        let rights = self.rights();
+        self.call(PROTECT, &[buffer.space, end - 1, 1, rights])?;
+        self.step_with(buffer.space, end, room, former)
+    }
+
+    /// Maps from page 0 of a space on where the last page of the space before is
+    /// mapped.
+    fn page_zero(&mut self) -> Step<()> {
+        let space = self.random.among(1, 3);
+        if self.word(space - 1, 1023) == 0 {
+            self.step(space - 1, 1023, 1)?;
+        }
+        let mapped = self.stretches(space, true);
+        if let Some(&(0, count)) = mapped.first() {
+            self.call(UNMAP, &[space, 0, count])?;
+        }
+        if self.word(space - 1, 1023) != 0 && self.random.one_in(2) {
+            self.free_after(space - 1, 1023)?;
+        }
+        let room = self.stretches(space, false)[0].1;
+        self.step(space, 0, room)
+    }
+
+    /// Extends what holds the highest frame.
+    fn extend_highest(&mut self) -> Step<()> {
+        let frames = &self.core.buffers.frames;
+        let Some(&word) = frames.iter().rev().find(|&&w| is_held(w)) else {
+            return Ok(());
+        };
+        let (space, page) = page_of(word);
+        let gaps = self.stretches(space, false);
+        match gaps.iter().find(|g| g.0 == page + 1) {
+            Some(&(first, room)) => self.step(space, first, room),
+            None => self.look_around(1),
+        }
     }
 
     /// Malformed records among calls; the last record is cut.

@@ -26,7 +26,7 @@ use unit::Rules;
 
 const USAGE: &str =
     "usage: reference run | encode | decode | calls | stats | state | convert | entries
-       reference gen SEED N STYLE   (mixed, sleep, fragment, big, garbage)
+       reference gen SEED N STYLE   (mixed, sleep, fragment, big, garbage, grow)
        reference bench [-k K] FILE..";
 
 fn main() -> ExitCode {
@@ -51,7 +51,8 @@ fn rules() -> io::Result<Rules> {
     Rules::with_bug(&name).ok_or_else(|| {
         invalid(
             "REFERENCE_BUG is 65, limit, keep, half, before, six, late, \
-             clean, nine, further or above",
+             clean, nine, further, above, ignored, unaligned, past, one-free, \
+             smaller, first-only, across or same-rights",
         )
     })
 }

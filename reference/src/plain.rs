@@ -61,6 +61,34 @@ pub struct Plain {
     pub log: BTreeMap<u32, (u32, u32, u32)>,
 }
 
+/// A block that a map took, with what stood before it was taken.
+pub struct Taken {
+    pub order: u32,
+    pub wished: Option<u32>,
+    pub old: u32,
+    pub start: u32,
+    pub free: BTreeSet<u32>,
+}
+
+impl Taken {
+    /// What became of the wish, by the name in the counts.
+    pub fn case(&self, size: u32) -> &'static str {
+        let Some(wished) = self.wished else {
+            return "none";
+        };
+        let block = || wished..wished + (1 << self.order);
+        let reasons = [
+            ("no_multiple", wished % (1 << self.order) != 0),
+            ("past", block().any(|f| f >= size)),
+            ("first_held", !self.free.contains(&wished)),
+            ("later_held", !block().all(|f| self.free.contains(&f))),
+            ("met_same", self.old == wished),
+            ("met_other", true),
+        ];
+        reasons.iter().find(|r| r.1).unwrap().0
+    }
+}
+
 impl Plain {
     fn free(&self) -> BTreeSet<u32> {
         let held: BTreeSet<u32> = self.held.values().map(|&(frame, _)| frame).collect();
@@ -84,8 +112,27 @@ impl Plain {
         blocks
     }
 
-    /// Blocks for n pages, by the rule, from the free frames alone.
-    fn blocks_for(&self, n: u32) -> Option<Vec<(u32, u32)>> {
+    /// The old choice: order, and start, of a block for so many pages left.
+    fn old_choice(&self, free: &BTreeSet<u32>, left: u32) -> Option<(u32, u32)> {
+        let blocks = self.free_blocks(free);
+        let i = (0..=10)
+            .filter(|&i| 1 << i <= left && blocks.iter().any(|b| b.1 >= i))
+            .max()?;
+        let from = blocks.iter().filter(|b| b.1 >= i).map(|b| b.1).min()?;
+        let start = blocks.iter().filter(|b| b.1 == from).map(|b| b.0).min()?;
+        Some((i, start))
+    }
+
+    /// Whether a block of this order starts at the frame, lies in the pool and is
+    /// wholly free.
+    fn can_start(&self, free: &BTreeSet<u32>, order: u32, frame: u32) -> bool {
+        let starts = (0..4096).step_by(1 << order).any(|start| start == frame);
+        starts && (frame..frame + (1 << order)).all(|f| f < self.size && free.contains(&f))
+    }
+
+    /// Blocks for n pages, by the rule, from the free frames and the wish of the
+    /// first block alone.
+    pub fn blocks_for(&self, n: u32, mut wished: Option<u32>) -> Option<Vec<Taken>> {
         let mut free = self.free();
         if (free.len() as u32) < n {
             return None;
@@ -93,19 +140,35 @@ impl Plain {
         let mut left = n;
         let mut taken = Vec::new();
         while left > 0 {
-            let blocks = self.free_blocks(&free);
-            let i = (0..=10)
-                .filter(|&i| 1 << i <= left && blocks.iter().any(|b| b.1 >= i))
-                .max()?;
-            let from = blocks.iter().filter(|b| b.1 >= i).map(|b| b.1).min()?;
-            let start = blocks.iter().filter(|b| b.1 == from).map(|b| b.0).min()?;
-            for f in start..start + (1 << i) {
+            let (order, old) = self.old_choice(&free, left)?;
+            let start = match wished {
+                Some(frame) if self.can_start(&free, order, frame) => frame,
+                _ => old,
+            };
+            taken.push(Taken {
+                order,
+                wished,
+                old,
+                start,
+                free: free.clone(),
+            });
+            for f in start..start + (1 << order) {
                 free.remove(&f);
             }
-            taken.push((start, i));
-            left -= 1 << i;
+            left -= 1 << order;
+            wished = Some(start + (1 << order));
         }
         Some(taken)
+    }
+
+    /// The frame that a map's first block wishes: the one after that of the page just
+    /// before the span.
+    fn wished(&self, space: u32, first: u32) -> Option<u32> {
+        let held = |page| self.held.get(&(space, page));
+        match first {
+            0 => None,
+            _ => held(first - 1).map(|&(frame, _)| frame + 1),
+        }
     }
 
     fn append(&mut self, record: (u32, u32, u32)) {
@@ -131,14 +194,16 @@ impl Plain {
         (before - self.held.len()) as u32
     }
 
-    /// Number of blocks taken; none if frames are lacking.
-    pub fn map(&mut self, space: u32, first: u32, count: u32, rights: u32) -> Option<u32> {
-        let blocks = self.blocks_for(count)?;
-        let frames = blocks.iter().flat_map(|&(s, o)| s..s + (1 << o));
+    /// The blocks taken; none if frames are lacking.
+    pub fn map(&mut self, space: u32, first: u32, count: u32, rights: u32) -> Option<Vec<Taken>> {
+        let blocks = self.blocks_for(count, self.wished(space, first))?;
+        let frames = blocks
+            .iter()
+            .flat_map(|t| t.start..t.start + (1 << t.order));
         for (page, frame) in (first..).zip(frames.collect::<Vec<u32>>()) {
             self.held.insert((space, page), (frame, rights));
         }
-        Some(blocks.len() as u32)
+        Some(blocks)
     }
 
     pub fn unmap(&mut self, space: u32, first: u32, count: u32) {

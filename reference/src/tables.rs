@@ -2,7 +2,7 @@
 
 use std::cmp::Ordering;
 
-use crate::pool;
+use crate::pool::{self, Block};
 use crate::unit::Rules;
 use crate::words::*;
 
@@ -246,14 +246,27 @@ pub fn close(b: &mut Buffers, space: u32) -> Outcome {
     Ok((removed, 0))
 }
 
-pub fn map(
+/// The frame after that of the page just before the span, if that page is mapped;
+/// its rights do not matter. Page 0 has none before it.
+fn wished(b: &Buffers, space: u32, first: u32, rights: u32, rules: &Rules) -> Option<u32> {
+    let before = match first {
+        0 if rules.across && space > 0 => b.page(space - 1, SPAN as u32 - 1),
+        0 => return None,
+        _ => b.page(space, first - 1),
+    };
+    let other = rights_of(before) != rights;
+    (before != 0 && !(rules.same_rights && other)).then(|| frame_of(before) + 1)
+}
+
+/// Maps a span; gives the blocks taken.
+pub fn map_blocks(
     b: &mut Buffers,
     space: u32,
     first: u32,
     count: u32,
     rights: u32,
     rules: &Rules,
-) -> Outcome {
+) -> Result<Vec<Block>, u32> {
     let facts = judge(b)?;
     space_known(space)?;
     rights_and_span(rights, first, count, rules)?;
@@ -266,17 +279,33 @@ pub fn map(
         return Err(14);
     }
     let size = b.pool_size() as usize;
+    let wished = wished(b, space, first, rights, rules);
     let (frames, pages, ranges) = part(b, space);
-    let blocks = pool::take(frames, size, count);
+    let blocks = pool::take(frames, size, count, wished, rules);
     let mut page = first;
-    for &(start, order) in &blocks {
-        for frame in start..start + (1 << order) {
-            frames[frame as usize] = owner(space, page);
+    for block in &blocks {
+        for frame in block.start..block.start + (1 << block.order) {
+            // Planted bugs may take frames that are not free; their words stay.
+            if is_free(frames[frame as usize]) {
+                frames[frame as usize] = owner(space, page);
+            }
             pages[page as usize] = page_word(frame, rights);
             page += 1;
         }
     }
     renew(pages, ranges);
+    Ok(blocks)
+}
+
+pub fn map(
+    b: &mut Buffers,
+    space: u32,
+    first: u32,
+    count: u32,
+    rights: u32,
+    rules: &Rules,
+) -> Outcome {
+    let blocks = map_blocks(b, space, first, count, rights, rules)?;
     Ok((blocks.len() as u32, 0))
 }
 

@@ -1,6 +1,7 @@
 use crate::entries;
 use crate::gen::{generate, Random, Style};
 use crate::plain::{allowed, long_runs, nearest, refusals, unit_kept, Plain, PlainUnit};
+use crate::pool::{self, Wish, WISHES};
 use crate::state;
 use crate::sv39::{from_sv39, to_sv39, word_of, Cause};
 use crate::tables::{self, figure, judge};
@@ -9,11 +10,12 @@ use crate::trace::*;
 use crate::unit::{self, PageEntry, RangeEntry, Rules, Unit, UNIT_WORDS};
 use crate::words::*;
 
-const STYLES: [Style; 5] = [
+const STYLES: [Style; 6] = [
     Style::Mixed,
     Style::Sleep,
     Style::Fragment,
     Style::Big,
+    Style::Grow,
     Style::Garbage,
 ];
 
@@ -565,7 +567,7 @@ fn preview_is_map_on_a_copy() {
     let mut core = Core::new(rules);
     for round in 0..3000u64 {
         if round % 30 == 0 {
-            core = some_core(round, 200 + round / 30, STYLES[(round / 30 % 4) as usize]);
+            core = some_core(round, 200 + round / 30, STYLES[(round / 30 % 5) as usize]);
         }
         let mut b = core.buffers.clone();
         let taken_out = match random.one_in(4) {
@@ -602,6 +604,263 @@ fn preview_is_map_on_a_copy() {
         "{numbers:?}"
     );
     assert!(cases.iter().all(|&n| n > 0), "{cases:?}");
+}
+
+// Grow a range in its own place (document 02, change 6).
+
+const GROW_CALLS: &str = include_str!("../../tests/hard/grow.trace");
+
+/// The planted bugs of wished frames.
+const WISH_BUGS: [&str; 8] = [
+    "ignored",
+    "unaligned",
+    "past",
+    "one-free",
+    "smaller",
+    "first-only",
+    "across",
+    "same-rights",
+];
+
+/// Frames of the pages that a map after a text's calls gives, and what became of the
+/// wishes of its blocks.
+fn placed_by(lines: &str, map: &str, rules: Rules) -> (Vec<u32>, Vec<Wish>) {
+    let mut core = core_after(lines);
+    let args: Vec<u32> = map.split(' ').map(|n| n.parse().unwrap()).collect();
+    let [space, first, count, rights] = args[..] else {
+        unreachable!()
+    };
+    let b = &mut core.buffers;
+    let blocks = tables::map_blocks(b, space, first, count, rights, &rules).unwrap();
+    let frames = (first..first + count).map(|page| frame_of(b.page(space, page)));
+    (frames.collect(), blocks.iter().map(|t| t.wish).collect())
+}
+
+fn placed(lines: &str, map: &str) -> (Vec<u32>, Vec<Wish>) {
+    placed_by(lines, map, Rules::default())
+}
+
+/// Pages 0 to 7 have frames 0 to 7 and pages 100 to 107 frames 8 to 15: neither span
+/// has a mapped page before it, so the old choice stands, the lowest of the smallest
+/// blocks that serve. Frames 16 to 31 are one free block.
+const TWO_BUFFERS: &str = "setup 32\nopen 0\nmap 0 0 8 3\nmap 0 100 8 3\n";
+
+/// Beside those, frames 0 to 7 are a free block of order 3.
+const LOWER_FREE: &str = "setup 32\nopen 0\nmap 0 0 8 3\nmap 0 100 8 3\nunmap 0 0 8\n";
+
+/// Blocks of order 2 and 0: frames 0 to 4. Free blocks are 5 (order 0), 6 (order 1),
+/// 8 (order 3) and 16 (order 4).
+const FIVE: &str = "setup 32\nopen 0\nmap 0 0 5 3\n";
+
+/// The free blocks of 14 frames are 0 (order 3), 8 (order 2) and 12 (order 1). The
+/// first goes to pages 0 to 7, the second to pages 100 to 103; then the first is free
+/// again.
+const NEAR_F: &str = "setup 14\nopen 0\nmap 0 0 8 3\nmap 0 100 4 3\nunmap 0 0 8\n";
+
+/// Pages 0 to 3 have frames 0 to 3, pages 101 to 103 frames 5 to 7. Free blocks are
+/// 4 (order 0) and 8 (order 3).
+const ONE_FREE: &str = "setup 16\nopen 0\nmap 0 0 4 3\nmap 0 100 4 3\nunmap 0 100 1\n";
+
+/// Pages 1,022 and 1,023 of space 0 have frames 2 and 3. Free blocks are 0 (order 1),
+/// 4 (order 2) and 8 (order 3).
+const LAST_PAGE: &str = "setup 16\nopen 0\nopen 1\nmap 0 1020 4 3\nunmap 0 1020 2\n";
+
+#[test]
+fn a_wish_is_met() {
+    // "the one after the frame of the page just before the span": page 107 has frame
+    // 15. The order is 3, and the block of order 3 at 16 "lies in the pool and is wholly
+    // free", so "it is taken". The old choice is the smallest block that serves, 0.
+    let (frames, wishes) = placed(LOWER_FREE, "0 108 8 3");
+    assert_eq!(frames, Vec::from_iter(16..24));
+    assert_eq!(wishes, [Wish::MetOther]);
+    // So one range of 16 pages has grown, where the old choice would have made two.
+    let core = core_after(&format!("{LOWER_FREE}map 0 108 8 3"));
+    let range = [100, 116, 0u32.wrapping_sub(92), 3, 0];
+    assert_eq!(core.buffers.space_ranges(0)[..5], range);
+    // The preview follows.
+    let asked = format!("{LOWER_FREE}preview 0 108 8 3");
+    assert_eq!(last_made(&asked), "preview 0 1 1");
+    let ignored = made_by(&asked, Rules::with_bug("ignored").unwrap());
+    assert!(ignored.ends_with(" preview 0 1 2\n"));
+    // The page before counts "if mapped"; nothing is said of its rights.
+    let (frames, wishes) = placed(LOWER_FREE, "0 108 8 1");
+    assert_eq!(frames, Vec::from_iter(16..24));
+    assert_eq!(wishes, [Wish::MetOther]);
+    // Without the lower block the old choice is 16 too.
+    let (frames, wishes) = placed(TWO_BUFFERS, "0 108 8 3");
+    assert_eq!(frames, Vec::from_iter(16..24));
+    assert_eq!(wishes, [Wish::MetSame]);
+}
+
+#[test]
+fn a_wish_at_no_multiple() {
+    // Two pages: order 1. The wish is 5, and a block of order 1 starts at a multiple of
+    // 2. So "the old choice stands": 6, the smallest block that serves. Frame 5 is free,
+    // and is not tried as a block of order 0.
+    let (frames, wishes) = placed(FIVE, "0 5 2 3");
+    assert_eq!((frames, wishes), (vec![6, 7], vec![Wish::NoMultiple]));
+    // "Each order is chosen by the old rule": 16 pages are one block of order 4, which
+    // is at 16 alone. Smaller ones from the wished frame 4 on would join the range.
+    let (frames, wishes) = placed("setup 32\nopen 0\nmap 0 0 4 3\n", "0 4 16 3");
+    assert_eq!(frames, Vec::from_iter(16..32));
+    assert_eq!(wishes, [Wish::NoMultiple]);
+    // A single page has any frame as a multiple.
+    let (frames, wishes) = placed(FIVE, "0 5 1 3");
+    assert_eq!((frames, wishes), (vec![5], vec![Wish::MetSame]));
+}
+
+#[test]
+fn a_wish_past_the_pool() {
+    // Four pages: order 2. The wish is 12, a multiple of 4; 12 and 13 are free, but 14
+    // and 15 do not lie in the pool. The old choice: 0, the one block that serves.
+    let (frames, wishes) = placed(NEAR_F, "0 104 4 3");
+    assert_eq!((frames, wishes), (vec![0, 1, 2, 3], vec![Wish::Past]));
+    // Two pages: 12 and 13 end just at F.
+    let (frames, wishes) = placed(NEAR_F, "0 104 2 3");
+    assert_eq!((frames, wishes), (vec![12, 13], vec![Wish::MetSame]));
+    // Then the wish is F itself.
+    let full = format!("{NEAR_F}map 0 104 2 3\n");
+    let (frames, wishes) = placed(&full, "0 106 1 3");
+    assert_eq!((frames, wishes), (vec![0], vec![Wish::Past]));
+    // No frame word stands there where F is 4,096.
+    let mut b = core_after("setup 4096").buffers;
+    for wished in [4096, u32::MAX] {
+        let taken = pool::take(
+            &mut b.frames.clone(),
+            4096,
+            1,
+            Some(wished),
+            &Rules::default(),
+        );
+        assert_eq!((taken.len(), taken[0].start), (1, 0));
+        assert_eq!(taken[0].wish, Wish::Past);
+    }
+    let last = pool::take(&mut b.frames, 4096, 2, Some(4095), &Rules::default());
+    assert_eq!((last.len(), last[0].wish), (1, Wish::NoMultiple));
+}
+
+#[test]
+fn a_wish_that_is_held() {
+    // Four pages: order 2. The wish is 8, a multiple of 4, which page 100 holds: not
+    // "wholly free". The old choice: 16.
+    let (frames, wishes) = placed(TWO_BUFFERS, "0 8 4 3");
+    assert_eq!(
+        (frames, wishes),
+        (vec![16, 17, 18, 19], vec![Wish::FirstHeld])
+    );
+    // Two pages: order 1. The wish is 4, a multiple of 2, and free, but page 101 holds
+    // frame 5. The old choice: 8.
+    let (frames, wishes) = placed(ONE_FREE, "0 4 2 3");
+    assert_eq!((frames, wishes), (vec![8, 9], vec![Wish::LaterHeld]));
+    // One page: frame 4 is a whole block.
+    let (frames, wishes) = placed(ONE_FREE, "0 4 1 3");
+    assert_eq!((frames, wishes), (vec![4], vec![Wish::MetSame]));
+}
+
+#[test]
+fn a_block_without_a_wish() {
+    // Page 0 of space 1 has no page just before it, so there is no wish, and the old
+    // choice stands: the lower half of 0. Page 1,023 of space 0 has frame 3, and 4 is
+    // free.
+    let (frames, wishes) = placed(LAST_PAGE, "1 0 1 3");
+    assert_eq!((frames, wishes), (vec![0], vec![Wish::None]));
+    let (frames, wishes) = placed(LAST_PAGE, "0 0 1 3");
+    assert_eq!((frames, wishes), (vec![0], vec![Wish::None]));
+    // Page 1,021 of space 0 is not mapped any more, page 7 of space 0 never was.
+    for map in ["0 1021 1 3", "0 8 1 3"] {
+        let (frames, wishes) = placed(LAST_PAGE, map);
+        assert_eq!((frames, wishes), (vec![0], vec![Wish::None]), "{map}");
+    }
+    // A page after the span says nothing: page 1,022 has frame 2.
+    let (frames, wishes) = placed(LAST_PAGE, "0 1020 2 3");
+    assert_eq!((frames, wishes), (vec![0, 1], vec![Wish::None]));
+}
+
+#[test]
+fn the_wish_of_a_later_block() {
+    // Three pages: orders 1 and 0. The first wish, 5, is no multiple of 2, so the first
+    // block is 6. The second wish is "the one after the preceding block": 8, which is
+    // free. The old choice would be 5, the only block of order 0.
+    let (frames, wishes) = placed(FIVE, "0 5 3 3");
+    assert_eq!(frames, [6, 7, 8]);
+    assert_eq!(wishes, [Wish::NoMultiple, Wish::MetOther]);
+    // A call's first block without a wish leaves the others theirs: 8, 2 and 1 pages,
+    // each block after the one before, where the old choice goes too.
+    let (frames, wishes) = placed("setup 32\nopen 0\n", "0 4 11 3");
+    assert_eq!(frames, Vec::from_iter(0..11));
+    assert_eq!(wishes, [Wish::None, Wish::MetSame, Wish::MetSame]);
+    // Pages 108 to 115 have 16 to 23. 16 more, but the free blocks are 0 and 24, both of
+    // order 3: the first block is taken at its wish, 24; the second wishes 32, past the
+    // pool, and goes to 0.
+    let lines = format!("{LOWER_FREE}map 0 108 8 3\n");
+    let (frames, wishes) = placed(&lines, "0 116 16 3");
+    assert_eq!(frames, Vec::from_iter((24..32).chain(0..8)));
+    assert_eq!(wishes, [Wish::MetOther, Wish::Past]);
+}
+
+#[test]
+fn wishes_are_counted() {
+    let counts = |lines: &str| counted(&encoded(lines)).wishes;
+    assert_eq!(counts(LISTING_CALLS), [1, 0, 2, 0, 0, 0, 0]);
+    assert_eq!(counts(LOWER_FREE), [2, 0, 0, 0, 0, 0, 0]);
+    let with = |lines: &str, map: &str| counts(&format!("{lines}map {map}"));
+    assert_eq!(with(LOWER_FREE, "0 108 8 1"), [2, 1, 0, 0, 0, 0, 0]);
+    assert_eq!(with(TWO_BUFFERS, "0 108 8 1"), [2, 0, 1, 0, 0, 0, 0]);
+    assert_eq!(with(FIVE, "0 5 3 3"), [1, 1, 1, 1, 0, 0, 0]);
+    assert_eq!(with(NEAR_F, "0 104 4 3"), [2, 0, 0, 0, 1, 0, 0]);
+    assert_eq!(with(TWO_BUFFERS, "0 8 4 3"), [2, 0, 0, 0, 0, 1, 0]);
+    assert_eq!(with(ONE_FREE, "0 4 2 3"), [2, 0, 0, 0, 0, 0, 1]);
+    // Of accepted maps alone.
+    for map in [
+        "0 108 8 2",
+        "0 104 4 3",
+        "0 108 99 3",
+        "1 0 1 3",
+        "0 1023 2 3",
+    ] {
+        assert_eq!(with(LOWER_FREE, map), [2, 0, 0, 0, 0, 0, 0], "{map}");
+    }
+}
+
+#[test]
+fn stored_growth() {
+    // Worked out beside the lines of the file.
+    let expected = "1 0 0 0
+2 0 0 0
+4 0 1 0
+4 0 1 0
+5 0 4 0
+4 0 1 0
+7 0 16 3
+4 0 1 0
+7 0 0 3
+5 0 1 0
+4 0 1 0
+7 0 20 3
+4 0 1 0
+7 0 4 3
+8 0 5455 0
+1 0 0 0
+2 0 0 0
+2 0 0 0
+4 0 1 0
+5 0 2 0
+4 0 1 0
+7 0 0 3
+4 0 2 0
+7 0 4 3
+7 0 6 3
+4 0 1 0
+7 0 8 3
+4 0 1 0
+7 0 10 3";
+    assert_eq!(answers(GROW_CALLS), Vec::from_iter(expected.lines()));
+    let wishes = counted(&encoded(GROW_CALLS)).wishes;
+    assert_eq!(wishes, [4, 3, 0, 2, 1, 1, 1]);
+    for bug in WISH_BUGS {
+        let (bytes, rules) = (encoded(GROW_CALLS), Rules::with_bug(bug).unwrap());
+        assert_ne!(listed(&bytes), listed_by(&bytes, rules), "{bug}");
+    }
 }
 
 // Write without read is reserved (document 02, change 4).
@@ -1286,7 +1545,7 @@ fn generator_is_determined() {
     assert_eq!(hash(&all), PINNED);
 }
 
-const PINNED: u64 = 11098682606867667936;
+const PINNED: u64 = 6136111835728683370;
 
 #[test]
 fn mixed_reaches_everything() {
@@ -1385,6 +1644,49 @@ fn big_is_big() {
 }
 
 #[test]
+fn grow_reaches_every_wish() {
+    let mut wishes = [0; WISHES.len()];
+    // Maps at page 0 of spaces 1 to 3 behind a mapped page 1,023, maps behind a page
+    // with other rights, unmaps of one page and of more, protects of a page behind which
+    // the next map begins, set-ups of no power of two.
+    let mut seen = [0; 6];
+    for seed in 0..100 {
+        let bytes = generated(seed, 300, Style::Grow);
+        let s = counted(&bytes);
+        assert_eq!(s.records, 300);
+        wishes.iter_mut().zip(s.wishes).for_each(|(a, w)| *a += w);
+        let reached = s.wishes.iter().filter(|&&n| n > 0).count();
+        assert!(reached >= 5, "seed {seed}: {:?}", s.wishes);
+        assert!(s.answered(0) * 100 / s.records >= 80);
+        let mut protected = (4, 0);
+        each_record(
+            &bytes[..],
+            &mut Core::new(Rules::default()),
+            |core, call| {
+                let [a0, a1, a2, a3] = call.args.map(u32::from);
+                let word = |space, page| core.buffers.page(space, page);
+                match call.kind {
+                    SETUP => seen[5] += !a0.is_power_of_two() as u32,
+                    MAP => {
+                        seen[0] += (a1 == 0 && a0 > 0 && word(a0 - 1, 1023) != 0) as u32;
+                        let before = a1.checked_sub(1).map_or(0, |page| word(a0, page));
+                        seen[1] += (before != 0 && rights_of(before) != a3) as u32;
+                        seen[4] += (protected == (a0, a1)) as u32;
+                    }
+                    UNMAP => seen[2 + (a2 > 1) as usize] += 1,
+                    PROTECT => protected = (a0, a1 + a2),
+                    _ => {}
+                }
+            },
+            |_, _| Ok(()),
+        )
+        .unwrap();
+    }
+    assert!(wishes.iter().all(|&n| n >= 200), "{wishes:?}");
+    assert!(seen.iter().all(|&n| n >= 200), "{seen:?}");
+}
+
+#[test]
 fn garbage_is_malformed() {
     // Records of kinds 9 and 10 with as many arguments as map has.
     let mut like_map = [0; 2];
@@ -1424,6 +1726,9 @@ fn planted_bugs_show() {
         ("half", Style::Fragment),
         ("late", Style::Mixed),
     ];
+    let bugs = bugs
+        .into_iter()
+        .chain(WISH_BUGS.map(|bug| (bug, Style::Grow)));
     for (name, style) in bugs {
         let rules = Rules::with_bug(name).unwrap();
         for seed in 0..4 {
@@ -1439,6 +1744,124 @@ fn planted_bugs_show() {
     let one = made_by("setup 32\nopen 0\npreview 0 4 11 3", before);
     assert!(one.ends_with("\n3 preview 0 3 0\n"));
     assert_ne!(made_by(PREVIEW_CALLS, before), PREVIEW_LINES);
+}
+
+/// Each of the examples of wished frames, with the frames that it gives and those
+/// that planted bugs give in their place.
+#[test]
+fn bugs_of_wishes_by_hand() {
+    type Turned<'a> = &'a [(&'a str, &'a [u32])];
+    let low: &[u32] = &[0, 1, 2, 3, 4, 5, 6, 7];
+    let high: &[u32] = &[16, 17, 18, 19, 20, 21, 22, 23];
+    let examples: [(&str, &str, &[u32], Turned); 9] = [
+        (LOWER_FREE, "0 108 8 3", high, &[("ignored", low)]),
+        (
+            LOWER_FREE,
+            "0 108 8 1",
+            high,
+            &[("ignored", low), ("same-rights", low)],
+        ),
+        (TWO_BUFFERS, "0 108 8 3", high, &[]),
+        (
+            FIVE,
+            "0 5 2 3",
+            &[6, 7],
+            &[("unaligned", &[5, 6]), ("smaller", &[5, 6])],
+        ),
+        (
+            FIVE,
+            "0 5 3 3",
+            &[6, 7, 8],
+            &[
+                ("ignored", &[6, 7, 5]),
+                ("unaligned", &[5, 6, 7]),
+                // Order 0 at 5; then two pages are left, and 6 is met at order 1.
+                ("smaller", &[5, 6, 7]),
+                ("first-only", &[6, 7, 5]),
+            ],
+        ),
+        (
+            NEAR_F,
+            "0 104 4 3",
+            &[0, 1, 2, 3],
+            &[("past", &[12, 13, 14, 15]), ("smaller", &[12, 13, 0, 1])],
+        ),
+        (TWO_BUFFERS, "0 8 4 3", &high[..4], &[]),
+        (
+            ONE_FREE,
+            "0 4 2 3",
+            &[8, 9],
+            &[("one-free", &[4, 5]), ("smaller", &[4, 8])],
+        ),
+        (LAST_PAGE, "1 0 1 3", &[0], &[("across", &[4])]),
+    ];
+    for (lines, map, right, turned) in examples {
+        assert_eq!(placed(lines, map).0, right, "{map}");
+        for bug in WISH_BUGS {
+            let expected = turned.iter().find(|t| t.0 == bug).map_or(right, |t| t.1);
+            let rules = Rules::with_bug(bug).unwrap();
+            let frames = placed_by(lines, map, rules).0;
+            assert_eq!(frames, expected, "{bug} {lines}{map}");
+            // Frames that are not free or not in the pool leave the tables unsound.
+            let unsound = ["past", "one-free"].contains(&bug) && frames != right;
+            let printed = made_by(&format!("{lines}map {map}\ncoverage 0"), rules);
+            let refused = printed.ends_with(" coverage 2 0 0\n");
+            assert_eq!(refused, unsound, "{bug} {lines}{map}");
+        }
+    }
+}
+
+#[test]
+fn bugs_of_wishes_end_no_file_early() {
+    for bug in WISH_BUGS {
+        let rules = Rules::with_bug(bug).unwrap();
+        assert_ne!(rules, Rules::default());
+        for style in STYLES {
+            for seed in 0..3 {
+                let bytes = generated(seed, 500, style);
+                let mut lines = 0;
+                // Previews before the maps too; they alter nothing.
+                each_record(
+                    &bytes[..],
+                    &mut Core::new(rules),
+                    |core, call| {
+                        if call.kind == MAP {
+                            let before = core.buffers.clone();
+                            let _ = core.preview(call);
+                            assert!(core.buffers == before);
+                        }
+                    },
+                    |_, _| {
+                        lines += 1;
+                        Ok(())
+                    },
+                )
+                .unwrap();
+                assert_eq!(lines, 500, "{bug}");
+            }
+        }
+    }
+}
+
+#[test]
+fn bugs_of_wishes_turn_what_map_answers() {
+    // In short files of the style made for them: all lines, and those of maps.
+    for bug in WISH_BUGS {
+        let rules = Rules::with_bug(bug).unwrap();
+        let (mut files, mut maps) = (0, 0);
+        for seed in 0..30 {
+            let bytes = generated(seed, 300, Style::Grow);
+            let (right, wrong) = (listed(&bytes), listed_by(&bytes, rules));
+            let of_map = |l: &&str| l.split(' ').nth(1) == Some("4");
+            files += (right != wrong) as u32;
+            maps += right
+                .lines()
+                .filter(of_map)
+                .ne(wrong.lines().filter(of_map)) as u32;
+            assert_eq!(listed_by(&bytes, Rules::with_bug("").unwrap()), right);
+        }
+        assert!(files >= 10 && maps >= 4, "{bug}: {files} {maps}");
+    }
 }
 
 /// A pool with ranges of 16 and 8 pages; the unit has seen both.
@@ -1697,8 +2120,10 @@ fn bugs_of_conversions_show_in_no_call() {
 // Against the rules written down slowly.
 
 /// Runs a file on the calls and on the plain state; compares values and units,
-/// and all words every few records.
-fn compare(bytes: &[u8], every: usize) {
+/// and all words every few records. Gives what became of wished frames, by the plain
+/// state.
+fn compare(bytes: &[u8], every: usize) -> [u64; WISHES.len()] {
+    let mut wishes = [0; WISHES.len()];
     let mut plain = Plain::default();
     let mut units = [PlainUnit::default(), PlainUnit::default()];
     let mut core = Core::new(Rules::default());
@@ -1744,7 +2169,14 @@ fn compare(bytes: &[u8], every: usize) {
                 0
             }
             CLOSE => plain.close(args[0]),
-            MAP => plain.map(args[0], args[1], args[2], args[3]).unwrap(),
+            MAP => {
+                let taken = plain.map(args[0], args[1], args[2], args[3]).unwrap();
+                for block in &taken {
+                    let case = block.case(plain.size);
+                    wishes[WISHES.iter().position(|&w| w == case).unwrap()] += 1;
+                }
+                taken.len() as u32
+            }
             UNMAP => {
                 plain.unmap(args[0], args[1], args[2]);
                 args[2]
@@ -1763,6 +2195,7 @@ fn compare(bytes: &[u8], every: usize) {
             assert!(core.units.iter().all(unit_kept), "{call:?}");
         }
     }
+    wishes
 }
 
 #[test]
@@ -1774,6 +2207,89 @@ fn calls_follow_the_rules() {
         compare(&generated(seed, 200, Style::Big), 10);
         compare(&generated(seed, 1000, Style::Garbage), 20);
     }
+}
+
+#[test]
+fn growing_follows_the_rules() {
+    let mut all = [0; WISHES.len()];
+    for seed in 0..80 {
+        let bytes = generated(seed, 300, Style::Grow);
+        let wishes = compare(&bytes, 3);
+        assert_eq!(counted(&bytes).wishes, wishes, "seed {seed}");
+        all.iter_mut().zip(wishes).for_each(|(a, w)| *a += w);
+    }
+    assert!(all.iter().all(|&n| n >= 150), "{all:?}");
+    for style in [Style::Mixed, Style::Sleep, Style::Fragment] {
+        let bytes = generated(5, 500, style);
+        assert_eq!(counted(&bytes).wishes, compare(&bytes, 50));
+    }
+}
+
+/// A pool in which frames are held singly or in spans, for pages of space 0.
+fn some_pool(random: &mut Random) -> Plain {
+    let mut plain = Plain::default();
+    plain.set_up(random.among(1, 90) as u32);
+    plain.open.insert(0);
+    let longest = random.pick(&[1, 4, 12, 30]);
+    let mut frame = random.below(longest) as u32;
+    while frame < plain.size {
+        let held = 1 + random.below(longest) as u32;
+        for f in frame..plain.size.min(frame + held) {
+            plain.held.insert((0, f), (f, 3));
+        }
+        frame += held + 1 + random.below(longest) as u32;
+    }
+    plain
+}
+
+#[test]
+fn any_wish_follows_the_rules() {
+    let mut random = Random(23);
+    let mut met_inside = 0;
+    for _ in 0..1500 {
+        let mut plain = some_pool(&mut random);
+        let mut b = plain.words();
+        let size = plain.size;
+        let free = size - plain.held.len() as u32;
+        if free == 0 {
+            continue;
+        }
+        let n = 1 + random.below(free as u64) as u32;
+        let near = random.below(size as u64 + 20) as u32;
+        let wished = random.pick(&[
+            None,
+            Some(near),
+            Some(near),
+            Some(near & !7),
+            Some(u32::MAX),
+        ]);
+        let right = Rules::default();
+        let taken = pool::take(&mut b.frames, size as usize, n, wished, &right);
+        let expected = plain.blocks_for(n, wished).unwrap();
+        // A wish moves blocks and changes none of the call's orders.
+        let unmoved = plain.blocks_for(n, None).unwrap();
+        assert!(unmoved
+            .iter()
+            .map(|t| t.order)
+            .eq(expected.iter().map(|t| t.order)));
+        let expected: Vec<(u32, u32)> = expected.iter().map(|t| (t.start, t.order)).collect();
+        let found: Vec<(u32, u32)> = taken.iter().map(|t| (t.start, t.order)).collect();
+        assert_eq!(found, expected, "{n} {wished:?}");
+        // A wish in the midst of a free block leaves free blocks on both sides.
+        let at = taken[0].start as usize;
+        let met = [Wish::MetOther, Wish::MetSame].contains(&taken[0].wish);
+        met_inside += (met && at > 0 && is_free(b.frames[at - 1])) as u32;
+        let mut page = 100;
+        for block in &taken {
+            for frame in block.start..block.start + (1 << block.order) {
+                b.frames[frame as usize] = owner(0, page);
+                plain.held.insert((0, page), (frame, 3));
+                page += 1;
+            }
+        }
+        assert!(b.frames == plain.words().frames, "{n} {wished:?}");
+    }
+    assert!(met_inside > 20, "{met_inside}");
 }
 
 /// A state in the middle of a generated file.
@@ -1838,7 +2354,7 @@ fn soundness_is_exact() {
     let mut core = Core::new(Rules::default());
     for round in 0..1200u64 {
         if round % 40 == 0 {
-            core = some_core(round, 120 + round / 8, STYLES[(round / 40 % 4) as usize]);
+            core = some_core(round, 120 + round / 8, STYLES[(round / 40 % 5) as usize]);
         }
         let mut b = core.buffers.clone();
         assert!(judge(&b).is_ok());
@@ -2058,7 +2574,7 @@ fn refusals_leave_all_as_it_was() {
     let mut core = Core::new(Rules::default());
     for round in 0..1500u64 {
         if round % 60 == 0 {
-            core = some_core(round, 300, STYLES[(round / 60 % 4) as usize]);
+            core = some_core(round, 300, STYLES[(round / 60 % 5) as usize]);
         }
         let mut b = core.buffers.clone();
         let mut unit = core.units[0];

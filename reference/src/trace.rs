@@ -2,6 +2,7 @@
 
 use std::io::{self, Read, Write};
 
+use crate::pool::WISHES;
 use crate::tables;
 use crate::unit::{self, Rules, Unit};
 use crate::words::*;
@@ -264,6 +265,8 @@ pub struct Stats {
     pub half_down: u64,
     /// The same, to the even figure above it.
     pub half_up: u64,
+    /// Blocks that accepted maps took, by what became of their wished frames.
+    pub wishes: [u64; WISHES.len()],
     pub most_blocks: u32,
     pub most_pages: u32,
     pub most_ranges: u32,
@@ -278,6 +281,7 @@ pub fn stats<R: Read>(input: R, rules: Rules) -> io::Result<Stats> {
     let behind = std::cell::Cell::new(0);
     let replaced = std::cell::Cell::new(false);
     let asked = std::cell::Cell::new([0; 4]);
+    let blocks = std::cell::RefCell::new(Vec::new());
     let mut ranges = 0;
     each_record(
         input,
@@ -297,6 +301,13 @@ pub fn stats<R: Read>(input: R, rules: Rules) -> io::Result<Stats> {
                 );
             }
             asked.set(call.args.map(u32::from));
+            if call.kind == MAP {
+                // The map is made on a copy, which gives its blocks.
+                let [space, first, count, rights] = asked.get();
+                let mut b = core.buffers.clone();
+                let made = tables::map_blocks(&mut b, space, first, count, rights, &core.rules);
+                blocks.replace(made.unwrap_or_default());
+            }
         },
         |core, line| {
             stats.records += 1;
@@ -315,6 +326,9 @@ pub fn stats<R: Read>(input: R, rules: Rules) -> io::Result<Stats> {
                 if line.kind == MAP {
                     stats.most_blocks = stats.most_blocks.max(first);
                     stats.most_pages = stats.most_pages.max(asked.get()[2]);
+                    for block in blocks.borrow().iter() {
+                        stats.wishes[block.wish as usize] += 1;
+                    }
                 }
                 if line.kind == COVERAGE {
                     let (inside, mapped) = tables::pages_counted(&core.buffers, asked.get()[0]);
@@ -370,6 +384,9 @@ impl Stats {
         writeln!(output, "ranges_replaced {}", self.replaced)?;
         writeln!(output, "half_down {}", self.half_down)?;
         writeln!(output, "half_up {}", self.half_up)?;
+        for (name, count) in WISHES.iter().zip(self.wishes) {
+            writeln!(output, "wish_{name} {count}")?;
+        }
         writeln!(output, "map_blocks_most {}", self.most_blocks)?;
         writeln!(output, "map_pages_most {}", self.most_pages)?;
         writeln!(output, "ranges_most {}", self.most_ranges)?;

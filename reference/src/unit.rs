@@ -64,6 +64,22 @@ pub struct Rules {
     pub further_passes: bool,
     /// Frame 4,096 of an Sv39 entry is let pass.
     pub frame_above: bool,
+    /// No block of a map has a wished frame.
+    pub ignored: bool,
+    /// A wish is met at a frame that is no multiple of the block's size.
+    pub unaligned: bool,
+    /// A wish is met whose block runs past F, up to the end of the frame words.
+    pub past: bool,
+    /// A wish is met where the first frame of its block is free, whatever the others.
+    pub one_free: bool,
+    /// A wish that is not met at the chosen order is tried at smaller ones.
+    pub smaller: bool,
+    /// Only a call's first block has a wish.
+    pub first_only: bool,
+    /// The last page of the space before is just before page 0.
+    pub across: bool,
+    /// The page before counts only if it has the rights asked.
+    pub same_rights: bool,
 }
 
 impl Default for Rules {
@@ -80,6 +96,14 @@ impl Default for Rules {
             range_at_nine: false,
             further_passes: false,
             frame_above: false,
+            ignored: false,
+            unaligned: false,
+            past: false,
+            one_free: false,
+            smaller: false,
+            first_only: false,
+            across: false,
+            same_rights: false,
         }
     }
 }
@@ -101,6 +125,14 @@ impl Rules {
             "nine" => rules.range_at_nine = true,
             "further" => rules.further_passes = true,
             "above" => rules.frame_above = true,
+            "ignored" => rules.ignored = true,
+            "unaligned" => rules.unaligned = true,
+            "past" => rules.past = true,
+            "one-free" => rules.one_free = true,
+            "smaller" => rules.smaller = true,
+            "first-only" => rules.first_only = true,
+            "across" => rules.across = true,
+            "same-rights" => rules.same_rights = true,
             _ => return None,
         }
         Some(rules)

@@ -78,6 +78,44 @@ protect 0 29 2 1\ncoverage 0\ncoverage 0\n";
 }
 
 #[test]
+fn stats_count_wishes() {
+    // Frames 0 to 3, then 4 to 7 elsewhere; 4 is freed. One page gets it by its wish, as
+    // by the old choice; two more wish 5, no multiple of 2.
+    let calls = "setup 16\nopen 0\nmap 0 0 4 3\nmap 0 100 4 3\nunmap 0 100 1
+map 0 4 1 3\nmap 0 5 2 3\nmap 0 5 2 3\n";
+    let records = good(&["encode"], calls.as_bytes());
+    let counts = String::from_utf8(good(&["stats"], &records)).unwrap();
+    let wishes = "
+wish_none 2
+wish_met_other 0
+wish_met_same 1
+wish_no_multiple 1
+wish_past 0
+wish_first_held 0
+wish_later_held 0
+";
+    assert!(counts.contains(wishes), "{counts}");
+}
+
+#[test]
+fn growth_in_a_text() {
+    // Pages 100 to 107 have frames 8 to 15, and 0 to 7 are free again.
+    let calls = b"setup 32\nopen 0\nmap 0 0 8 3\nmap 0 100 8 3\nunmap 0 0 8
+preview 0 108 8 3\nmap 0 108 8 3\ntranslate 0 0 108 1\n";
+    let printed = |bug: Option<&str>| {
+        let output = reference(&["calls"], bug, calls);
+        assert!(output.status.success());
+        let lines = String::from_utf8(output.stdout).unwrap();
+        lines.lines().skip(6).collect::<Vec<&str>>().join("\n")
+    };
+    let right = "6 preview 0 1 1\n7 map 0 1 0\n8 translate 0 16 3";
+    assert_eq!(printed(None), right);
+    let wrong = "6 preview 0 1 2\n7 map 0 1 0\n8 translate 0 0 3";
+    assert_eq!(printed(Some("ignored")), wrong);
+    assert_eq!(printed(Some("same-rights")), right);
+}
+
+#[test]
 fn reserved_rights_in_a_text() {
     let calls = "setup 32\nopen 0\nmap 0 4 11 2\nmap 0 4 11 6\nmap 0 4 11 8
 map 0 4 11 3\nprotect 0 4 11 6\nprotect 0 4 11 7\n";
@@ -128,6 +166,14 @@ fn planted_bugs_turn_the_listing() {
         ("keep", "sleep"),
         ("half", "fragment"),
         ("late", "mixed"),
+        ("ignored", "grow"),
+        ("unaligned", "grow"),
+        ("past", "grow"),
+        ("one-free", "grow"),
+        ("smaller", "grow"),
+        ("first-only", "grow"),
+        ("across", "grow"),
+        ("same-rights", "grow"),
     ];
     for (bug, style) in bugs {
         let records = good(&["gen", "2", "4000", style], b"");

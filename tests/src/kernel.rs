@@ -59,6 +59,11 @@ impl World {
         }
     }
 
+    /// The page words of a space.
+    pub fn space_pages(&self, space: u32) -> &[u32] {
+        &self.pages[1024 * space as usize..][..1024]
+    }
+
     /// Used entries of a space's range table.
     pub fn ranges_used(&self, space: u32) -> u32 {
         let entries = self.ranges[512 * space as usize..][..512].chunks(4);

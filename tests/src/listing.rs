@@ -6,7 +6,7 @@ use std::process::{Command, Stdio};
 use std::sync::mpsc::channel;
 use std::time::Duration;
 
-pub const STYLES: [&str; 5] = ["mixed", "sleep", "fragment", "big", "garbage"];
+pub const STYLES: [&str; 6] = ["mixed", "sleep", "fragment", "big", "grow", "garbage"];
 
 /// What each style must reach, by the second program's own count.
 fn must_reach(style: &str) -> Vec<String> {
@@ -36,6 +36,16 @@ fn must_reach(style: &str) -> Vec<String> {
         "sleep" => &["behind_63", "behind_64", "behind_65", "way_1", "way_2", "way_3"],
         "fragment" => &["answer_0", "answer_14", "way_3", "half_down", "half_up"],
         "big" => &["answer_0", "way_2", "way_3"],
+        // of the blocks of accepted maps: no wish, met where the old choice lies elsewhere or there too, and not met, for each reason
+        "grow" => &[
+            "wish_none",
+            "wish_met_other",
+            "wish_met_same",
+            "wish_no_multiple",
+            "wish_past",
+            "wish_first_held",
+            "wish_later_held",
+        ],
         "garbage" => &["answer_16"],
         _ => &[],
     };

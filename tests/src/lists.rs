@@ -3,6 +3,7 @@ use crate::kernel::*;
 use crate::random::Random;
 use crate::rights::RESERVED;
 use crate::second::Second;
+use crate::wishes::{self, first_wish, page_to_grow};
 use std::cmp::Ordering;
 use std::collections::BTreeMap;
 
@@ -109,7 +110,8 @@ pub fn some_call(r: &mut Random, world: &World) -> Call {
     let (kind, arguments) = match r.below(41) {
         0..=2 => (OPEN, [space, 0, 0, 0]),
         3 => (CLOSE, [space, 0, 0, 0]),
-        4..=11 => (MAP, [space, first, count, rights]),
+        4..=8 => (MAP, [space, first, count, rights]),
+        9..=11 => (MAP, [space, page_to_grow(r, world, space).unwrap_or(first), count, rights]),
         12..=16 => (UNMAP, [space, first, count, 0]),
         17..=19 => (PROTECT, [space, first, count, rights]),
         20 => (COVERAGE, [space, 0, 0, 0]),
@@ -142,11 +144,12 @@ fn half(inside: u32, mapped: u32) -> Option<&'static str> {
     }
 }
 
-/// Counts the cases of interest, of coverage, of reserved rights and of previews. The world is that after the call.
+/// Counts the cases of interest, of coverage, of wishes, of reserved rights and of previews. The world is that after the call.
 fn note_cases(world: &World, call: Call, answer: Answer, seen: &mut Seen) {
     let space = call.arguments[0];
     match (call.kind, answer.number) {
         (COVERAGE, 0) => note_half(world, space, seen),
+        (MAP, 0) => seen.note(first_wish(world, space, call.arguments[1])),
         (MAP, 17) => seen.note(format!("map_17_by_{}", call.arguments[3])),
         (PROTECT, 17) => seen.note(format!("protect_17_by_{}", call.arguments[3])),
         (PREVIEW, number) => {
@@ -176,7 +179,7 @@ fn note_accepted_preview(world: &World, space: u32, answer: Answer, seen: &mut S
 
 /// Counts a coverage that is an exact half, by the page words alone.
 fn note_half(world: &World, space: u32, seen: &mut Seen) {
-    let pages = &world.pages[1024 * space as usize..][..1024];
+    let pages = world.space_pages(space);
     let mapped = pages.iter().filter(|w| **w != 0).count() as u32;
     let inside = pages.iter().filter(|w| **w & 32768 != 0).count() as u32;
     if let Some(what) = half(inside, mapped) {
@@ -188,7 +191,7 @@ fn note_half(world: &World, space: u32, seen: &mut Seen) {
 /// into pieces too short for a range. In a pool that is too full or broken up another coverage comes out.
 pub fn calls_to_half(r: &mut Random, world: &World) -> Vec<Call> {
     let space = 1 + r.below(3) as u32;
-    let own = world.pages[1024 * space as usize..][..1024].iter().filter(|w| **w != 0).count();
+    let own = world.space_pages(space).iter().filter(|w| **w != 0).count();
     let free = world.frames.iter().filter(|w| **w == 8192 || (16384..=16394).contains(*w)).count();
     // multiples of 32 pages have halves, others have none
     let mapped = 32 * (1 + r.below(((own + free) as u64 / 32).clamp(1, 32))) as u32;
@@ -386,6 +389,6 @@ pub fn compare(lists: u64, first: u64) -> bool {
         "preview_same_ranges",
         "preview_several_blocks",
     ];
-    let must: Vec<String> = must.iter().map(|w| w.to_string()).collect();
+    let must: Vec<String> = must.iter().chain(&wishes::CASES).map(|w| w.to_string()).collect();
     seen.report(if lists >= 100 { &must } else { &[] })
 }

@@ -9,6 +9,7 @@ mod runs;
 mod second;
 mod states;
 mod sv39;
+mod wishes;
 
 use std::process::exit;
 
@@ -42,9 +43,12 @@ fn planted() -> bool {
     let calls = [("lists", "60"), ("damaged", "20000")];
     let conversions = [("sv39", "1000")];
     let in_calls = ["65", "limit", "keep", "half", "before", "six", "late"].map(|bug| (bug, &calls[..]));
+    // the stored files come first
+    let maps = [("listings", "1")];
+    let in_maps = ["ignored", "unaligned", "past", "one-free", "smaller", "first-only", "across", "same-rights"].map(|bug| (bug, &maps[..]));
     let in_conversions = ["clean", "nine", "further", "above"].map(|bug| (bug, &conversions[..]));
     let mut fine = true;
-    for (bug, comparisons) in in_calls.into_iter().chain(in_conversions) {
+    for (bug, comparisons) in in_calls.into_iter().chain(in_maps).chain(in_conversions) {
         let red = comparisons.iter().any(|(what, count)| turns_red(what, count, bug));
         println!("planted bug {bug}: {}", if red { "seen" } else { "NOT SEEN" });
         fine &= red;

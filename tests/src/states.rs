@@ -5,6 +5,7 @@ use crate::random::Random;
 use crate::rights::{self, damage_rights, foreign_page_entry, foreign_range_entry};
 use crate::runs::{damage_run, KINDS};
 use crate::second::Second;
+use crate::wishes;
 
 /// A sound state to start from: a pool in use, with a unit that has translated.
 fn state(r: &mut Random) -> World {
@@ -287,5 +288,6 @@ fn must_be_reached() -> Vec<String> {
     must.extend(["half_down", "half_up"].map(String::from));
     must.extend([0, 1, 2, 5, 6, 17, 8, 10, 11, 14].map(|n| format!("preview_{n}")));
     must.extend(["preview_adds", "preview_same_ranges", "preview_several_blocks"].map(String::from));
+    must.extend(wishes::CASES.map(String::from));
     must
 }

@@ -2,7 +2,11 @@
 use crate::cells;
 use crate::clock;
 use blocks::BUFFER_WORDS;
+use blocks::LARGEST_POOL;
 use blocks::Reply;
+
+// No frame of any pool.
+pub const NO_WISH: u32 = LARGEST_POOL;
 
 pub enum Call {
     SetUp,
@@ -26,7 +30,7 @@ pub fn allocate(frames: &mut [u32], r: Request) -> Reply {
     if BUFFER_WORDS < n {
         return Reply::WrongLength;
     }
-    frames::allocate(frames, r.pool, r.owner, &mut out[..n])
+    frames::allocate(frames, r.pool, r.owner, NO_WISH, &mut out[..n])
 }
 
 fn make(call: Call, frames: &mut [u32], r: Request) -> Reply {

@@ -1,5 +1,6 @@
 // The pools whose calls are timed, made by the calls themselves.
 ghost use Prim.Native.Nat.{_≤_};
+use crate::pool_calls::NO_WISH;
 use crate::pool_calls::Request;
 use crate::pool_calls::allocate;
 use blocks::BUFFER_WORDS;
@@ -24,8 +25,8 @@ fn give_singly(frames: &mut [u32], pool: u32) {
     let half = pool / 2;
     let mut frame = [0u32; 1];
     for i in 0..half {
-        frames::allocate(frames, pool, 1 + i, &mut frame);
-        frames::allocate(frames, pool, half + 1 + i, &mut frame);
+        frames::allocate(frames, pool, 1 + i, NO_WISH, &mut frame);
+        frames::allocate(frames, pool, half + 1 + i, NO_WISH, &mut frame);
     }
 }
 

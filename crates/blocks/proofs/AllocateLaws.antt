@@ -21,16 +21,16 @@ use Rattle.blocks.specs.declared.Bound.{Bound}
 use Rattle.blocks.specs.declared.Chosen.{Chosen}
 use Rattle.blocks.specs.Blocks.{inBlock}
 use Rattle.blocks.specs.FrameWords.{ownersOf, freeOf, freeIn, lawful, frameWords}
-use Rattle.blocks.specs.Choice.{takeBlock, without, leftAfter, takeBlocks, framesOf, blocksFor, framesFor}
+use Rattle.blocks.specs.Choice.{takeBlock, without, leftAfter, endOf, wishAfter, takeBlocks, framesOf, blocksFor, framesFor}
 use Rattle.blocks.specs.Owners.{put, give}
 use Rattle.blocks.specs.Inner.Taking.{Searched, BlockTaken}
 use Rattle.blocks.specs.Inner.Around.{startOf}
-use Rattle.blocks.specs.Inner.Passes.{asBlock, boundAfter, Begins, handed}
-use Rattle.blocks.proofs.AroundLaws.{in-block}
-use Rattle.blocks.proofs.WordLaws.{owners-small, lawful-is, lawful-yes, owners-high, owners-again, table-lawful, block-word}
-use Rattle.blocks.proofs.ChoiceLaws.{Took, Taking, taking, one, end, took-free, took-start, took-count, own, length-own, frames-cons, fuel}
-use Rattle.blocks.proofs.SearchedLaws.{known-after}
-use Rattle.blocks.proofs.TakeLaws.{handed-in, handed-out, free-after, PartFacts, part-facts}
+use Rattle.blocks.specs.Inner.Passes.{asBlock, PartOf, handed}
+use Rattle.blocks.proofs.AroundLaws.{in-block, block-in}
+use Rattle.blocks.proofs.WordLaws.{owners-small, lawful-is, lawful-yes, owners-high, owners-again, table-lawful}
+use Rattle.blocks.proofs.ChoiceLaws.{Took, Taking, taking, one, end, took-free, took-count, own, length-own, frames-cons, fuel}
+use Rattle.blocks.proofs.SearchedLaws.{stays}
+use Rattle.blocks.proofs.TakeLaws.{handed-in, handed-out, free-after}
 
 -- giving
 
@@ -92,60 +92,56 @@ give-one b x o = ap (give (ownersOf b) o) (append-nil (own x)) ∙ give-own b x 
 -- one block
 
 -- there is one while a page is left and enough frames are free
-pub chosen-is : (F : ℕ) (b : List ℕ) (left : ℕ) (x : Block) → 1 ≤ left → left ≤ count F (freeIn b) → x ≡ asBlock (takeBlock F (freeIn b) left) → takeBlock F (freeIn b) left ≡ some x
+pub chosen-is : (F : ℕ) (b : List ℕ) (wish left : ℕ) (x : Block) → 1 ≤ left → left ≤ count F (freeIn b) → x ≡ asBlock (takeBlock F (freeIn b) (some wish) left)
+    → takeBlock F (freeIn b) (some wish) left ≡ some x
 unfolding asBlock
-chosen-is F b left x pos enough e = go (takeBlock F (freeIn b) left) (taking F (freeIn b) left) e
+chosen-is F b wish left x pos enough e = go (takeBlock F (freeIn b) (some wish) left) (taking F (freeIn b) (some wish) left) e
   where
     go : (o : Option Block) → Taking F (freeIn b) left o → x ≡ asBlock o → o ≡ some x
     go o (one y w) xy = ap some (sym xy)
     go o (end n) xy = let r = count-some F (freeIn b) (omega arith) in absurd (n (r .0) (r .1) (r .2) pos)
 
-took : (F : ℕ) (free : ℕ → Bool) (left : ℕ) (x : Block) → takeBlock F free left ≡ some x → Took F free left x
-took F free left x e = go (takeBlock F free left) e (taking F free left)
+pub took : (F : ℕ) (free : ℕ → Bool) (wish : Option ℕ) (left : ℕ) (x : Block) → takeBlock F free wish left ≡ some x → Took F free left x
+took F free wish left x e = go (takeBlock F free wish left) e (taking F free wish left)
   where
     go : (o : Option Block) → o ≡ some x → Taking F free left o → Took F free left x
     go o eo (one y w) = let yx : y ≡ x = cc in rw yx at w
     go o eo (end n) = none-some x none refl eo
 
-module _ (F : ℕ) (b : List ℕ) (lw : lawful F b ≡ true) (left : ℕ) (x : Block) (is : takeBlock F (freeIn b) left ≡ some x) where
+module _ (F : ℕ) (b : List ℕ) (lw : lawful F b ≡ true) (wish left : ℕ) (x : Block) (is : takeBlock F (freeIn b) (some wish) left ≡ some x) where
   w : Took F (freeIn b) left x
-  w = took F (freeIn b) left x is
+  w = took F (freeIn b) (some wish) left x is
 
-  pub chosen-begins : Begins F b (x .start .0) (x .order)
-  chosen-begins =
-      record {
-        inside = w .from .inside;
-        top = w .top;
-        below = w .below;
-        first = block-word F b (lawful-is F b lw) (w .top) (x .start .0) (w .from .inside) (w .from);
-      }
-
-  chosen-part : PartFacts F b (x .start .0) (x .order) chosen-begins
-  chosen-part = part-facts F b lw (x .start .0) (x .order) chosen-begins
+  pub chosen-small : x .order ≤ 10
+  chosen-small = let a = w .below in let c = w .from .maximal .small in omega arith
 
   chosen-fits : 2 ^ (x .order) ≤ left
   chosen-fits = w .fits
 
-  chosen-small : x .order ≤ 10
-  chosen-small = let a = w .below in let c = w .from .maximal .small in omega arith
+  pub chosen-inside : x .start .0 + 2 ^ (x .order) ≤ F
+  chosen-inside =
+      let pos = pow-pos (x .order) in
+      let st = w .starts in
+      omega (arith, took-free F (freeIn b) left x w (x .start .0 + (2 ^ (x .order) - 1)) (block-in (x .order) (x .start .0) _ (omega arith) (omega arith)) .0)
 
-  chosen-inside : x .start .0 + 2 ^ (x .order) ≤ F
-  chosen-inside = let p = chosen-part in omega (arith, p .fits, p .less)
+  -- where it lies, by what the choice says of its free block
+  pub chosen-part : (j : ℕ) → (x .order ≤ 10 → (x .order ≤ j) × (startOf j (x .start .0) < F) × (getD b (startOf j (x .start .0)) 0 ≡ 16384 + j)) → PartOf F b (x .start .0) (x .order) j
+  chosen-part j e = let q = e chosen-small in record { starts = w .starts; below = q .0; inside = q .1; first = q .2 }
 
   -- the block, and then the blocks of the rest
-  chosen-all : blocksFor F (freeIn b) left ≡ x ∷ blocksFor F (without (freeIn b) (x .order) (x .start .0)) (left - 2 ^ (x .order))
-  unfolding blocksFor takeBlocks
+  chosen-all : blocksFor F (freeIn b) (some wish) left ≡ x ∷ blocksFor F (without (freeIn b) (x .order) (x .start .0)) (some (endOf x)) (left - 2 ^ (x .order))
+  unfolding blocksFor takeBlocks wishAfter
   chosen-all =
       let fits = chosen-fits in
       let pos : 0 < 2 ^ (x .order) = pow-pos (x .order) in
       let e : left ≡ suc (left - 1) = omega arith in
-      let a : takeBlocks (suc (left - 1)) F (freeIn b) left ≡ x ∷ takeBlocks (left - 1) F (without (freeIn b) (x .order) (x .start .0)) (left - 2 ^ (x .order)) = rw (is, takeBlocks) in
-      ap (λ (n : ℕ). takeBlocks n F (freeIn b) left) e ∙ a
-      ∙ ap {B = List Block} (λ r. x ∷ r) (fuel (left - 1) (leftAfter left x) F (without (freeIn b) (x .order) (x .start .0)) (leftAfter left x) (omega arith) (omega arith))
+      let a : takeBlocks (suc (left - 1)) F (freeIn b) (some wish) left ≡ x ∷ takeBlocks (left - 1) F (without (freeIn b) (x .order) (x .start .0)) (some (endOf x)) (left - 2 ^ (x .order)) = rw (is, takeBlocks) in
+      ap (λ (n : ℕ). takeBlocks n F (freeIn b) (some wish) left) e ∙ a
+      ∙ ap {B = List Block} (λ r. x ∷ r) (fuel (left - 1) (leftAfter left x) F (without (freeIn b) (x .order) (x .start .0)) (some (endOf x)) (leftAfter left x) (omega arith) (omega arith))
 
   module _ (o : ℕ) (pos : 1 ≤ o) (room : o + left ≤ 4097) where
     starts : startOf (x .order) (x .start .0) ≡ x .start .0
-    starts = took-start F (freeIn b) left x w
+    starts = w .starts
 
     then-low : (g : ℕ) → handedTo b x o g ≤ 4096
     unfolding handedTo
@@ -181,43 +177,45 @@ module _ (F : ℕ) (b : List ℕ) (lw : lawful F b ≡ true) (left : ℕ) (x : B
 
 -- the promise of one block, from what the code does
 
-pub block-taken : (F : ℕ) (b : List ℕ) → lawful F b ≡ true → (left : ℕ) (x : Block) → takeBlock F (freeIn b) left ≡ some x → (o : ℕ) → 1 ≤ o → o + left ≤ 4097 → 1 ≤ left
-    → (known next : Bound) → Searched F (freeIn b) known → next ≡ boundAfter known x left → (b′ : List ℕ) → b′ ≡ frameWords F (handed (ownersOf b) (x .order) (x .start .0) o)
-    → BlockTaken F b o left (record { block = x; known = next }) b′
+pub block-taken : (F : ℕ) (b : List ℕ) → lawful F b ≡ true → (wish left : ℕ) (x : Block) → takeBlock F (freeIn b) (some wish) left ≡ some x → (o : ℕ) → 1 ≤ o → o + left ≤ 4097
+    → (next : Bound) → Searched F (freeIn b) next → (b′ : List ℕ) → b′ ≡ frameWords F (handed (ownersOf b) (x .order) (x .start .0) o)
+    → BlockTaken F b o wish left (record { block = x; known = next }) b′
 unfolding handedTo
-block-taken F b lw left x is o pos room some-left known next searched ne b′ be =
+block-taken F b lw wish left x is o pos room next searched b′ be =
     record {
       chosen = is;
       words = be ∙ ap (frameWords F) (sym (give-one b x o));
-      searched = rw (then-free F b lw left x is o pos room b′ be) (known-after F (freeIn b) left known next x some-left (chosen-small F b lw left x is) searched is ne);
+      searched = rw (then-free F b lw wish left x is o pos room b′ be) (stays F (freeIn b) (x .order) (x .start .0) next searched);
     }
 
 -- what the block leaves for the rest of the request
-pub record Rest (F : ℕ) (b : List ℕ) (o left : ℕ) (x : Block) (b′ : List ℕ) : Type 0 where
+pub record Rest (F : ℕ) (b : List ℕ) (o wish left : ℕ) (x : Block) (b′ : List ℕ) : Type 0 where
   pub small : x .order ≤ 10
   pub fits : 2 ^ (x .order) ≤ left
   pub inside : x .start .0 + 2 ^ (x .order) ≤ F
   pub lawful : lawful F b′ ≡ true
+  pub free : freeIn b′ ≡ without (freeIn b) (x .order) (x .start .0)
   pub enough : left - 2 ^ (x .order) ≤ count F (freeIn b′)
-  pub blocks : blocksFor F (freeIn b) left ≡ x ∷ blocksFor F (freeIn b′) (left - 2 ^ (x .order))
-  pub given : give (ownersOf b) o (framesFor F (freeIn b) left) ≡ give (ownersOf b′) (o + 2 ^ (x .order)) (framesFor F (freeIn b′) (left - 2 ^ (x .order)))
+  pub blocks : blocksFor F (freeIn b) (some wish) left ≡ x ∷ blocksFor F (freeIn b′) (some (endOf x)) (left - 2 ^ (x .order))
+  pub given : give (ownersOf b) o (framesFor F (freeIn b) (some wish) left) ≡ give (ownersOf b′) (o + 2 ^ (x .order)) (framesFor F (freeIn b′) (some (endOf x)) (left - 2 ^ (x .order)))
 
-pub rest-of : (F : ℕ) (b : List ℕ) (o left : ℕ) (r : Chosen) (b′ : List ℕ) → lawful F b ≡ true → 1 ≤ o → o + left ≤ 4097 → left ≤ count F (freeIn b) → BlockTaken F b o left r b′
-    → Rest F b o left (r .block) b′
+pub rest-of : (F : ℕ) (b : List ℕ) (o wish left : ℕ) (r : Chosen) (b′ : List ℕ) → lawful F b ≡ true → 1 ≤ o → o + left ≤ 4097 → left ≤ count F (freeIn b) → BlockTaken F b o wish left r b′
+    → Rest F b o wish left (r .block) b′
 unfolding framesFor
-rest-of F b o left r b′ lw pos room enough t =
+rest-of F b o wish left r b′ lw pos room enough t =
     record {
-      small = chosen-small F b lw left x (t .chosen);
-      fits = chosen-fits F b lw left x (t .chosen);
-      inside = chosen-inside F b lw left x (t .chosen);
-      lawful = then-lawful F b lw left x (t .chosen) o pos room b′ be;
-      enough = rw free (omega (arith, took-count F (freeIn b) left x (took F (freeIn b) left x (t .chosen))));
+      small = chosen-small F b lw wish left x (t .chosen);
+      fits = chosen-fits F b lw wish left x (t .chosen);
+      inside = chosen-inside F b lw wish left x (t .chosen);
+      lawful = then-lawful F b lw wish left x (t .chosen) o pos room b′ be;
+      free = free;
+      enough = rw free (omega (arith, took-count F (freeIn b) left x (took F (freeIn b) (some wish) left x (t .chosen))));
       blocks = all;
       given = ap (λ (l : List Block). give (ownersOf b) o (framesOf l)) all
           ∙ ap (give (ownersOf b) o) (frames-cons x _)
           ∙ give-append (ownersOf b) o (own x) rest
           ∙ ap (λ (m : ℕ). give (give (ownersOf b) o (own x)) (o + m) rest) (length-own x)
-          ∙ ap (λ (q : ℕ → ℕ). give q (o + 2 ^ (x .order)) rest) (give-own b x o ∙ sym (then-owners F b lw left x (t .chosen) o pos room b′ be));
+          ∙ ap (λ (q : ℕ → ℕ). give q (o + 2 ^ (x .order)) rest) (give-own b x o ∙ sym (then-owners F b lw wish left x (t .chosen) o pos room b′ be));
     }
   where
     x : Block
@@ -227,13 +225,13 @@ rest-of F b o left r b′ lw pos room enough t =
     be = t .words ∙ ap (frameWords F) (give-one b x o)
 
     free : freeIn b′ ≡ without (freeIn b) (x .order) (x .start .0)
-    free = then-free F b lw left x (t .chosen) o pos room b′ be
+    free = then-free F b lw wish left x (t .chosen) o pos room b′ be
 
-    all : blocksFor F (freeIn b) left ≡ x ∷ blocksFor F (freeIn b′) (left - 2 ^ (x .order))
-    all = rw free (chosen-all F b lw left x (t .chosen))
+    all : blocksFor F (freeIn b) (some wish) left ≡ x ∷ blocksFor F (freeIn b′) (some (endOf x)) (left - 2 ^ (x .order))
+    all = rw free (chosen-all F b lw wish left x (t .chosen))
 
     rest : List ℕ
-    rest = framesOf (blocksFor F (freeIn b′) (left - 2 ^ (x .order)))
+    rest = framesOf (blocksFor F (freeIn b′) (some (endOf x)) (left - 2 ^ (x .order)))
 
 -- the frames noted in a list
 

@@ -2,19 +2,20 @@
 use mathlib.Core.Path.{_≡_, refl, ap, _∙_, sym}
 use mathlib.Core.Bool.{Bool, true, false, not}
 use mathlib.Core.Option.{Option, some}
-use Prim.Native.Nat.{ℕ, suc, _+_, _*_, _/_, _%_, _^_, _-_, _<_, _≤_, zero-le}
+use Prim.Native.Nat.{ℕ, zero, suc, _+_, _*_, _/_, _%_, _^_, _-_, _<_, _≤_, zero-le}
 use native.Mathlib.Nat.{div-add-mod', mod-lt, mod-eq-of-lt, div-one, mul-assoc}
-use native.Mathlib.Decide.{decLe}
+use native.Mathlib.Decide.{decLt, decLe, ℕ-discrete}
 use native.Mathlib.Omega.{arith}
 use lib.Arith.{digits-div}
 use lib.Pow.{pow-pos, pow-mono, shr-shr, shl-shr, pow-add}
-use borrow.Author.Tests.{leb-true, le-leb, ltb-true, lt-ltb, not-true}
+use borrow.Author.Tests.{leb-true, le-leb, ltb-true, lt-ltb, eq-eqb, ne-eqb, not-true}
 use Rattle.words.specs.Searches.{largest}
-use Rattle.words.proofs.Cases.{by-test, by-dec, true-false, and-true, true-and}
+use Rattle.words.proofs.Cases.{by-test, by-dec, true-false, and-true, true-and, both-ways}
+use Rattle.words.proofs.PowerLaws.{double}
 use Rattle.words.proofs.SearchLaws.{allFrom-at, at-allFrom, largest-is, Largest, greatest, nothing, largest-ext, largest-unique}
 use Rattle.blocks.specs.Blocks.{inBlock}
 use Rattle.blocks.specs.Choice.{without}
-use Rattle.blocks.specs.Inner.Around.{startOf, around, freeOrder}
+use Rattle.blocks.specs.Inner.Around.{startOf, otherHalf, around, freeOrder}
 
 -- sizes
 
@@ -91,6 +92,98 @@ start-shifted w k f h = mod-eq-of-lt (let low : startOf k f ≤ f = in-block k f
 
 pub start-start : (k f : ℕ) → startOf k (startOf k f) ≡ startOf k f
 start-start k f = start-same k f (startOf k f) (start-in k f)
+
+-- the halves of a block
+
+twice : (k : ℕ) → 2 ^ k + 2 ^ k ≡ 2 ^ suc k
+twice k = let on : k + 1 ≡ suc k = omega arith in double k ∙ ap (λ (n : ℕ). 2 ^ n) on
+
+-- the block of order k around f is the lower half of the block of order k + 1 around it, or the upper one
+by-half : {P : Type 0} (k f : ℕ) → (startOf k f ≡ startOf (suc k) f → P) → (startOf k f ≡ startOf (suc k) f + 2 ^ k → P) → P
+unfolding startOf
+by-half k f lower upper =
+    let h : ℕ = f / 2 ^ k in
+    let w : ℕ = f / 2 ^ suc k in
+    let on : k + 1 ≡ suc k = omega arith in
+    let half : h / 2 ≡ w = shr-shr f k 1 ∙ ap (λ (n : ℕ). f / 2 ^ n) on in
+    let size : w * (2 ^ k + 2 ^ k) ≡ w * 2 ^ suc k = ap (λ (n : ℕ). w * n) (twice k) in
+    let parts : h / 2 * 2 + h % 2 ≡ h = div-add-mod' h 2 in
+    let small : h % 2 < 2 = mod-lt h (omega arith) in
+    by-dec (ℕ-discrete (h % 2) 0)
+    (λ z.
+    let even : h * 2 ^ k ≡ w * 2 * 2 ^ k = ap (λ (n : ℕ). n * 2 ^ k) (omega arith) in
+    lower (omega arith))
+    (λ n.
+    let odd : h * 2 ^ k ≡ (w * 2 + 1) * 2 ^ k = ap (λ (n : ℕ). n * 2 ^ k) (omega arith) in
+    upper (omega arith))
+
+-- f and s are in one block of order k + 1, and in different halves of it
+pub record Parted (k f s : ℕ) : Type 0 where
+  pub one : f / 2 ^ suc k ≡ s / 2 ^ suc k
+  pub apart : f / 2 ^ k ≡ s / 2 ^ k → ⊥
+
+module _ (k s : ℕ) where
+  next : startOf (suc k) s ≡ startOf (k + 1) s
+  next = let on : suc k ≡ k + 1 = omega arith in ap (λ (n : ℕ). startOf n s) on
+
+  -- the other half, as the code decides which it is
+  module _ (own low : ℕ) (oe : own ≡ startOf k s) (le : low ≡ startOf (k + 1) s) where
+    pub other-upper : (z : ℕ) → z ≡ 2 ^ k → low ≡ own → own + z ≡ otherHalf k s
+    unfolding otherHalf
+    other-upper z ze e = rw (eq-eqb _ _ (next ∙ sym le ∙ e ∙ oe), otherHalf) (omega arith)
+
+    pub other-lower : (low ≡ own → ⊥) → low ≡ otherHalf k s
+    unfolding otherHalf
+    other-lower n = rw (ne-eqb _ _ (λ e. n (le ∙ sym next ∙ e ∙ sym oe)), otherHalf) (le ∙ sym next)
+
+  by-other : {P : Type 0} → (startOf k s ≡ startOf (suc k) s → otherHalf k s ≡ startOf (suc k) s + 2 ^ k → P)
+      → (startOf k s ≡ startOf (suc k) s + 2 ^ k → otherHalf k s ≡ startOf (suc k) s → P) → P
+  by-other upper lower =
+      by-half k s
+      (λ e. let o = other-upper _ _ refl next _ refl (sym e) in upper e (omega arith))
+      (λ e. let p : 0 < 2 ^ k = pow-pos k in let o = other-lower _ _ refl next (λ x. omega arith) in lower e (omega arith))
+
+  -- its first frame parts from s at order k, and each frame that does is in it
+  pub other-parted : (f : ℕ) → f ≡ otherHalf k s → Parted k f s
+  other-parted f fe =
+      let p : 0 < 2 ^ k = pow-pos k in
+      let size = twice k in
+      by-other
+      (λ e o. record {
+        one = block-in (suc k) s f (omega arith) (omega arith);
+        apart = λ x. let q = in-block k s f x in omega (arith, q .1);
+      })
+      (λ e o. record {
+        one = block-in (suc k) s f (omega arith) (omega arith);
+        apart = λ x. let q = in-block k s f x in omega (arith, q .0);
+      })
+
+  pub parted-start : (f : ℕ) → Parted k f s → startOf k f ≡ otherHalf k s
+  parted-start f p =
+      let same : startOf (suc k) f ≡ startOf (suc k) s = start-same (suc k) s f (p .one) in
+      let differ : startOf k f ≡ startOf k s → ⊥ = λ e. p .apart (sym (start-in k f) ∙ ap (λ (x : ℕ). x / 2 ^ k) e ∙ start-in k s) in
+      by-other
+      (λ e o. by-half k f (λ low. absurd (differ (omega arith))) (λ up. omega arith))
+      (λ e o. by-half k f (λ low. omega arith) (λ up. absurd (differ (omega arith))))
+
+-- two frames part at one order only
+pub parted-once : (k m f s : ℕ) → Parted k f s → Parted m f s → k ≡ m
+parted-once k m f s p q =
+    by-dec (decLt k m)
+    (λ lt. absurd (q .apart (coarser f s (suc k) m lt (p .one))))
+    (λ ge. by-dec (decLt m k)
+    (λ lt. absurd (p .apart (coarser f s (suc m) k lt (q .one))))
+    (λ le. omega arith))
+
+-- and they do where they are in one block of order j, but not of order i
+pub parted-at : (i j f s : ℕ) → (f / 2 ^ i ≡ s / 2 ^ i → ⊥) → f / 2 ^ j ≡ s / 2 ^ j → (k : ℕ) × (i ≤ k) × (k < j) × Parted k f s
+parted-at i zero f s n e = absurd (n (coarser f s 0 i zero-le e))
+parted-at i (suc j) f s n e =
+    by-dec (ℕ-discrete (f / 2 ^ j) (s / 2 ^ j))
+    (λ same. let r = parted-at i j f s n same in (r .0, r .1, omega (arith, r .2), r .3))
+    (λ differ.
+    let ij : i ≤ j = by-dec (decLe i j) (λ le. le) (λ gt. absurd (n (coarser f s (suc j) i (omega arith) e))) in
+    (j, ij, omega arith, record { one = e; apart = differ }))
 
 -- the same by the test of Blocks, for a block that starts at s
 module _ (k s g : ℕ) (st : startOf k s ≡ s) where
@@ -184,12 +277,7 @@ around-half F p q same f k t = at-around F q k f (λ g e. let r = around-at F p 
 
 module _ (F : ℕ) (p q : ℕ → Bool) (same : (g : ℕ) → g < F → p g ≡ q g) where
   pub around-ext : (f k : ℕ) → around F p f k ≡ around F q f k
-  around-ext f k =
-      by-test (around F p f k)
-      (λ t. t ∙ sym (around-half F p q same f k t))
-      (λ t. by-test (around F q f k)
-      (λ u. true-false (around F p f k) (around-half F q p (λ g h. sym (same g h)) f k u) t)
-      (λ u. t ∙ sym u))
+  around-ext f k = both-ways _ _ (around-half F p q same f k) (around-half F q p (λ g h. sym (same g h)) f k)
 
   pub order-ext : (f : ℕ) → freeOrder F p f ≡ freeOrder F q f
   unfolding freeOrder
@@ -232,17 +320,17 @@ module _ (F : ℕ) (free : ℕ → Bool) (i j s : ℕ) (i≤j : i ≤ j) (top : 
           (around-same F free k f s (sym (coarser g s i k (omega arith) gs) ∙ e) t)
           (top .alone k (omega arith) hk))
 
-  -- of the rest of it, the upper half of order k around f is a free block
-  pub upper-half : (f k : ℕ) → i ≤ k → k < j → (f / 2 ^ k ≡ s / 2 ^ k → ⊥) → f / 2 ^ suc k ≡ s / 2 ^ suc k → Maximal F (without free i s) k f
-  upper-half f k ik kj apart one =
+  -- of the rest of it, the half of order k around f is a free block
+  pub other-half-free : (f k : ℕ) → i ≤ k → k < j → Parted k f s → Maximal F (without free i s) k f
+  other-half-free f k ik kj p =
       let kK : k ≤ 10 = omega (arith, top .small) in
       record {
         small = kK;
         whole = at-around F (without free i s) k f (λ g e.
-            let in-top : g / 2 ^ j ≡ s / 2 ^ j = coarser g f k j (omega arith) e ∙ coarser f s (suc k) j kj one in
-            let p = around-at F free j s (top .whole) g in-top in
-            (p .0, true-without free i s g st (p .1) (λ gs. apart (sym e ∙ coarser g s i k ik gs))));
+            let in-top : g / 2 ^ j ≡ s / 2 ^ j = coarser g f k j (omega arith) e ∙ coarser f s (suc k) j kj (p .one) in
+            let r = around-at F free j s (top .whole) g in-top in
+            (r .0, true-without free i s g st (r .1) (λ gs. p .apart (sym e ∙ coarser g s i k ik gs))));
         alone = λ m km hm. by-test (around F (without free i s) f m)
-            (λ t. absurd (without-out free i s s st (around-at F (without free i s) m f t s (sym (coarser f s (suc k) m km one)) .1) refl))
+            (λ t. absurd (without-out free i s s st (around-at F (without free i s) m f t s (sym (coarser f s (suc k) m km (p .one))) .1) refl))
             (λ t. t);
       }

@@ -20,12 +20,14 @@ use Rattle.blocks.specs.declared.Reply.the-variants.{Done, WrongLength, 
 use Rattle.blocks.specs.declared.PoolCall.{PoolCall}
 use Rattle.blocks.specs.declared.PoolCall.the-variants.{SetUp, Check, Count, Allocate, Free}
 use Rattle.blocks.specs.FrameWords.{isPoolSize, ownersOf, freeIn, lawful, frameWords}
+use Rattle.blocks.specs.Choice.{blocksFor, framesFor, blockCount}
 use Rattle.blocks.specs.Owners.{freed, holds}
 use Rattle.blocks.specs.Inner.Taking.{FramesTaken}
 use Rattle.blocks.specs.Calls.{outcome, PoolWords, lent, inOwners, judged, freedWords, row, Called}
 use Rattle.blocks.specs.Statements.{LowestFirst}
 use Rattle.blocks.proofs.WordLaws.{owners-small, free-zero, at-free, lawful-is, owners-high, owners-again, size-at, at-size}
 use Rattle.blocks.proofs.FreeLaws.{freed-small, freed-zero}
+use Rattle.blocks.proofs.ChoiceLaws.{wish-of}
 
 -- sizes and spans as the code tests them
 
@@ -54,7 +56,7 @@ unfolding LowestFirst row inOrder refusalOrder among numbers
 lowest-first (SetUp F) P = refl
 lowest-first (Check F) P = refl
 lowest-first (Count F) P = refl
-lowest-first (Allocate F o) P = refl
+lowest-first (Allocate F o w) P = refl
 lowest-first (Free F o n) P = refl
 
 module _ (c : PoolCall) (P : PoolWords) where
@@ -158,9 +160,9 @@ module _ (F : ℕ) (b : List ℕ) where
     unfolding row
     count-stopped = stopped (Count F) [] _ refl
 
-    pub allocate-stopped : (first : ℕ) (out : List ℕ) → (x .number ≡ 0 → ⊥) → Called (Allocate F first) (lent b out) o (lent b out)
+    pub allocate-stopped : (first wish : ℕ) (out : List ℕ) → (x .number ≡ 0 → ⊥) → Called (Allocate F first wish) (lent b out) o (lent b out)
     unfolding row
-    allocate-stopped first out = stopped (Allocate F first) out _ refl
+    allocate-stopped first wish out = stopped (Allocate F first wish) out _ refl
 
     pub free-stopped : (first n : ℕ) → (x .number ≡ 0 → ⊥) → Called (Free F first n) (lent b []) o (lent b [])
     unfolding row
@@ -172,25 +174,26 @@ module _ (F : ℕ) (b : List ℕ) where
 
 -- allocate
 
-module _ (F : ℕ) (b : List ℕ) (o : ℕ) (out : List ℕ) (t : lawful F b ≡ true) where
-  pub allocate-span : inOwners o (length out) ≡ false → Called (Allocate F o) (lent b out) (outcome WrongSpan) (lent b out)
+module _ (F : ℕ) (b : List ℕ) (o wish : ℕ) (out : List ℕ) (t : lawful F b ≡ true) where
+  pub allocate-span : inOwners o (length out) ≡ false → Called (Allocate F o wish) (lent b out) (outcome WrongSpan) (lent b out)
   unfolding row
-  allocate-span f = refuses (Allocate F o) (lent b out) (outcome WrongSpan .number) (omega arith) (on F b t _ _ (here (omega arith) (ap not f)))
+  allocate-span f = refuses (Allocate F o wish) (lent b out) (outcome WrongSpan .number) (omega arith) (on F b t _ _ (here (omega arith) (ap not f)))
 
   module _ (i : inOwners o (length out) ≡ true) where
-    pub allocate-held : anyFrom (length out) o (holds F (ownersOf b)) ≡ true → Called (Allocate F o) (lent b out) (outcome AlreadyHeld) (lent b out)
+    pub allocate-held : anyFrom (length out) o (holds F (ownersOf b)) ≡ true → Called (Allocate F o wish) (lent b out) (outcome AlreadyHeld) (lent b out)
     unfolding row
-    allocate-held h = refuses (Allocate F o) (lent b out) (outcome AlreadyHeld .number) (omega arith) (on F b t _ _ (later (ap not i) (here (omega arith) h)))
+    allocate-held h = refuses (Allocate F o wish) (lent b out) (outcome AlreadyHeld .number) (omega arith) (on F b t _ _ (later (ap not i) (here (omega arith) h)))
 
     module _ (nobody : anyFrom (length out) o (holds F (ownersOf b)) ≡ false) where
-      pub allocate-few : count F (freeIn b) < length out → Called (Allocate F o) (lent b out) (outcome TooFewFrames) (lent b out)
+      pub allocate-few : count F (freeIn b) < length out → Called (Allocate F o wish) (lent b out) (outcome TooFewFrames) (lent b out)
       unfolding row
-      allocate-few h = refuses (Allocate F o) (lent b out) (outcome TooFewFrames .number) (omega arith) (on F b t _ _ (later (ap not i) (later nobody (here (omega arith) (lt-ltb _ _ h)))))
+      allocate-few h = refuses (Allocate F o wish) (lent b out) (outcome TooFewFrames .number) (omega arith) (on F b t _ _ (later (ap not i) (later nobody (here (omega arith) (lt-ltb _ _ h)))))
 
-      pub allocate-done : (r : ℕ) (b′ out′ : List ℕ) → length out ≤ count F (freeIn b) → FramesTaken F b o (length out) r b′ out′ → Called (Allocate F o) (lent b out) (outcome (Done r)) (lent b′ out′)
-      unfolding row
+      pub allocate-done : (r : ℕ) (b′ out′ : List ℕ) → length out ≤ count F (freeIn b) → FramesTaken F b o wish (length out) r b′ out′ → Called (Allocate F o wish) (lent b out) (outcome (Done r)) (lent b′ out′)
+      unfolding row blockCount framesFor blocksFor
       allocate-done r b′ out′ h w =
-          accepts (Allocate F o) (lent b out) r (lent b′ out′) (none-on F b t _ (next (ap not i) (next nobody (next (le-ltb _ _ h) done)))) (w .blocks) refl (rw (w .words, w .frames))
+          let same = wish-of F (freeIn b) wish (length out) (length out) in
+          accepts (Allocate F o wish) (lent b out) r (lent b′ out′) (none-on F b t _ (next (ap not i) (next nobody (next (le-ltb _ _ h) done)))) (w .blocks ∙ ap length same) refl (rw (w .words, w .frames, same))
 
 -- free
 

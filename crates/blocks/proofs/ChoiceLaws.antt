@@ -7,24 +7,24 @@ use Prim.Native.Nat.{ℕ, zero, suc, _+_, _/_, _^_, _-_, _<_, _≤_, zero-le}
 use native.Mathlib.Nat.{not-suc-le-zero}
 use native.Mathlib.Decide.{decLt, ℕ-discrete}
 use native.Mathlib.Omega.{arith}
-use lib.Dec.{leb}
+use lib.Dec.{leb, ltb}
 use lib.ListN.{length, getD, length-append, List·getD-append}
 use lib.Seq.{getD-append-add}
 use lib.Pow.{pow-pos}
-use borrow.Author.Tests.{leb-true, le-leb}
+use borrow.Author.Tests.{leb-true, le-leb, ltb-false}
 use Rattle.words.specs.Tables.{tabFrom}
 use Rattle.words.specs.Counts.{count, one-if}
 use Rattle.words.specs.Searches.{largest, is-some}
-use Rattle.words.proofs.Cases.{by-dec, true-false, and-true, true-and}
+use Rattle.words.proofs.Cases.{by-test, by-dec, true-false, and-true, true-and}
 use Rattle.words.proofs.TableLaws.{length-tabFrom, getD-tabFrom}
 use Rattle.words.proofs.CountLaws.{count-or, count-range, count-some}
 use Rattle.words.proofs.SearchLaws.{First, found, missing, firstFrom-is, first-ext, Largest, greatest, nothing, largest-is, largest-ext, is-some-at, some-is}
 use Rattle.blocks.specs.declared.Block.{Block}
-use Rattle.blocks.specs.Blocks.{block, inBlock, freeBlock}
-use Rattle.blocks.specs.Choice.{lowest, serving, isServed, orderFor, cutAt, takeFrom, takeOrder, takeBlock, without, leftAfter, takeBlocks, framesOf}
+use Rattle.blocks.specs.Blocks.{block, inBlock, whollyFree, freeBlock}
+use Rattle.blocks.specs.Choice.{lowest, serving, isServed, orderFor, cutAt, takeFrom, oldChoice, takeOrder, takeBlock, without, leftAfter, wishAfter, takeBlocks, framesOf, wishOf}
 use Rattle.blocks.specs.Inner.Around.{startOf}
-use Rattle.blocks.proofs.AroundLaws.{finer, coarser, in-block, block-in, inBlock-is, is-inBlock, not-inBlock, around-at, free-around, without-free, without-out}
-use Rattle.blocks.proofs.FreeBlockLaws.{BlockAt, free-block-at, at-free-block, in-block-at, free-block-ext}
+use Rattle.blocks.proofs.AroundLaws.{finer, start-in, coarser, in-block, block-in, inBlock-is, is-inBlock, not-inBlock, around-at, free-around, without-free, without-out}
+use Rattle.blocks.proofs.FreeBlockLaws.{BlockAt, whole-at, free-block-at, at-free-block, in-block-at, whole-ext, free-block-ext}
 
 module _ (F : ℕ) (free : ℕ → Bool) where
   -- "lowest start": no free block of the order starts lower
@@ -68,12 +68,13 @@ module _ (F : ℕ) (free : ℕ → Bool) where
           let q = at-lowest k s b in
           true-false (is-some (lowest F free k)) (some-is (lowest F free k) (q .0) (q .1)) (m k ik (omega arith))
 
-  -- the block that is taken
+  -- the block that is taken: it lies in a free block
   pub record Took (left : ℕ) (b : Block) : Type 0 where
     pub fits : 2 ^ (b .order) ≤ left
+    pub starts : startOf (b .order) (b .start .0) ≡ b .start .0
     pub top : ℕ
     pub below : b .order ≤ top
-    pub from : BlockAt F free top (b .start .0)
+    pub from : BlockAt F free top (startOf top (b .start .0))
 
   served-at : (left i : ℕ) → isServed F free left i ≡ true → (2 ^ i ≤ left) × (is-some (serving F free i) ≡ true)
   unfolding isServed
@@ -83,33 +84,65 @@ module _ (F : ℕ) (free : ℕ → Bool) where
   unfolding isServed
   at-served left i h t = true-and _ _ (le-leb _ _ h) t
 
-  pub takeOrder-eq : (i j s : ℕ) → serving F free i ≡ some j → lowest F free j ≡ some s → takeOrder F free (some i) ≡ some (block i s)
-  unfolding takeOrder takeFrom cutAt
-  takeOrder-eq i j s a b = rw (a, takeFrom, b)
+  pub old-choice : (i j s : ℕ) → serving F free i ≡ some j → lowest F free j ≡ some s → oldChoice F free i ≡ some (block i s)
+  unfolding oldChoice takeFrom cutAt
+  old-choice i j s a b = rw (a, takeFrom, b)
 
-  -- `takeOrder` at an order that isServed
-  take-at : (left i : ℕ) → i ≤ 10 → 2 ^ i ≤ left → is-some (serving F free i) ≡ true → (b : Block) × (takeOrder F free (some i) ≡ some b) × Took left b
-  take-at left i hi h t =
+  -- the old choice of an order that is served
+  take-old : (left i : ℕ) → i ≤ 10 → 2 ^ i ≤ left → is-some (serving F free i) ≡ true → (b : Block) × (oldChoice F free i ≡ some b) × Took left b
+  take-old left i hi h t =
       let j = is-some-at (serving F free i) t in
       let q = serving-at i (j .0) hi (j .1) in
       let s = q .2 in
       let b : Block = block i (s .0) in
-      (b, takeOrder-eq i (j .0) (s .0) (j .1) (s .1), record { fits = h; top = j .0; below = q .0; from = lowest-at (j .0) (s .0) (s .1) })
+      let from = lowest-at (j .0) (s .0) (s .1) in (
+        b,
+        old-choice i (j .0) (s .0) (j .1) (s .1),
+        record {
+          fits = h;
+          starts = finer i (j .0) (s .0) (q .0) (from .aligned);
+          top = j .0;
+          below = q .0;
+          from = subst (BlockAt F free (j .0)) (sym (from .aligned)) from;
+        },
+      )
 
   -- a block is taken, or no page is left or no frame is free
   pub data Taking (left : ℕ) : Option Block → Type 0 where
     one : (b : Block) → Took left b → Taking left (some b)
     end : ((f : ℕ) → f < F → free f ≡ true → 1 ≤ left → ⊥) → Taking left none
 
-  pub taking : (left : ℕ) → Taking left (takeBlock F free left)
-  unfolding takeBlock orderFor takeOrder
-  taking left = go (largest 10 (isServed F free left)) (largest-is 10 (isServed F free left))
+  -- the wish decides
+  module _ (s i : ℕ) where
+    pub order-met : whollyFree F free i s ≡ true → takeOrder F free (some s) i ≡ some (block i s)
+    unfolding takeOrder
+    order-met t = rw (t, takeOrder)
+
+    pub order-not-met : whollyFree F free i s ≡ false → takeOrder F free (some s) i ≡ takeOrder F free none i
+    unfolding takeOrder
+    order-not-met f = rw (f, takeOrder)
+
+  -- of an order that is served a block is taken, wished for or not
+  old-taken : (left i : ℕ) → i ≤ 10 → 2 ^ i ≤ left → is-some (serving F free i) ≡ true → Taking left (takeOrder F free none i)
+  unfolding takeOrder
+  old-taken left i hi h t = let q = take-old left i hi h t in subst (Taking left) (sym (q .1)) (one (q .0) (q .2))
+
+  order-taken : (wish : Option ℕ) (left i : ℕ) → i ≤ 10 → 2 ^ i ≤ left → is-some (serving F free i) ≡ true → Taking left (takeOrder F free wish i)
+  order-taken none left i hi h t = old-taken left i hi h t
+  order-taken (some s) left i hi h t =
+      by-test (whollyFree F free i s)
+      (λ y.
+      let w = whole-at F free i s y in
+      let q = in-block-at F free i s hi (w .2) in
+      subst (Taking left) (sym (order-met s i y)) (one (block i s) (record { fits = h; starts = w .1; top = q .0; below = q .1; from = q .3 })))
+      (λ n. subst (Taking left) (sym (order-not-met s i n)) (old-taken left i hi h t))
+
+  pub taking : (wish : Option ℕ) (left : ℕ) → Taking left (takeBlock F free wish left)
+  unfolding takeBlock orderFor
+  taking wish left = go (largest 10 (isServed F free left)) (largest-is 10 (isServed F free left))
     where
-      go : (o : Option ℕ) → Largest 10 (isServed F free left) o → Taking left (takeOrder F free o)
-      go o (greatest i hi t m) =
-          let p = served-at left i t in
-          let q = take-at left i hi (p .0) (p .1) in
-          subst (λ (x : Option Block). Taking left x) (sym (q .1)) (one (q .0) (q .2))
+      go : (o : Option ℕ) → Largest 10 (isServed F free left) o → Taking left (elim o [ none ↦ none | some i ↦ takeOrder F free wish i ])
+      go o (greatest i hi t m) = let p = served-at left i t in order-taken wish left i hi (p .0) (p .1)
       go o (nothing m) =
           end (λ f h t l.
           let a = in-block-at F free 0 f zero-le (free-around F free f h t) in
@@ -117,10 +150,8 @@ module _ (F : ℕ) (free : ℕ → Bool) where
 
   -- the frames of the block taken are in the pool and free
   pub took-free : (left : ℕ) (b : Block) → Took left b → (g : ℕ) → g / 2 ^ (b .order) ≡ b .start .0 / 2 ^ (b .order) → (g < F) × (free g ≡ true)
-  took-free left b w g e = around-at F free (w .top) (b .start .0) (w .from .maximal .whole) g (coarser g (b .start .0) (b .order) (w .top) (w .below) e)
-
-  pub took-start : (left : ℕ) (b : Block) → Took left b → startOf (b .order) (b .start .0) ≡ b .start .0
-  took-start left b w = finer (b .order) (w .top) (b .start .0) (w .below) (w .from .aligned)
+  took-free left b w g e =
+      around-at F free (w .top) _ (w .from .maximal .whole) g (coarser g (b .start .0) (b .order) (w .top) (w .below) e ∙ sym (start-in (w .top) (b .start .0)))
 
 split-one : (a b : Bool) → (b ≡ true → a ≡ true) → one-if a ≡ one-if (a && not b) + one-if b
 unfolding one-if
@@ -136,7 +167,7 @@ unfolding without
 took-count F free left b w =
     let i : ℕ = b .order in
     let s : ℕ = b .start .0 in
-    let st : startOf i s ≡ s = took-start F free left b w in
+    let st : startOf i s ≡ s = w .starts in
     let pos : 0 < 2 ^ i = pow-pos i in
     let last = took-free F free left b w (s + (2 ^ i - 1)) (block-in i s _ (omega arith) (omega arith)) in
     let mine : ℕ → Bool = inBlock i s in
@@ -152,7 +183,7 @@ took-count F free left b w =
     part : (g : ℕ) → one-if (free g) ≡ one-if (without free (b .order) (b .start .0) g) + one-if (inBlock (b .order) (b .start .0) g)
     part g =
         split-one (free g) (inBlock (b .order) (b .start .0) g)
-        (λ t. took-free F free left b w g (inBlock-is (b .order) (b .start .0) g (took-start F free left b w) t) .1)
+        (λ t. took-free F free left b w g (inBlock-is (b .order) (b .start .0) g (w .starts) t) .1)
 
 -- all the blocks of a request
 
@@ -192,7 +223,7 @@ pub record Good (F : ℕ) (free : ℕ → Bool) (fs : List ℕ) : Type 0 where
 module _ (F : ℕ) (free : ℕ → Bool) (left : ℕ) (b : Block) (bs : List Block) (w : Took F free left b) (rest : Good F (without free (b .order) (b .start .0)) (framesOf bs)) where
   -- a frame of the first block
   head-in : (t : ℕ) → t < 2 ^ (b .order) → (b .start .0 + t) / 2 ^ (b .order) ≡ b .start .0 / 2 ^ (b .order)
-  head-in t h = let st = took-start F free left b w in block-in (b .order) (b .start .0) (b .start .0 + t) (omega arith) (omega arith)
+  head-in t h = let st = w .starts in block-in (b .order) (b .start .0) (b .start .0 + t) (omega arith) (omega arith)
 
   -- a frame of the rest
   rest-at : (t : ℕ) → 2 ^ (b .order) ≤ t → t < length (framesOf (b ∷ bs))
@@ -203,7 +234,7 @@ module _ (F : ℕ) (free : ℕ → Bool) (left : ℕ) (b : Block) (bs : List Blo
       → getD (framesOf (b ∷ bs)) t 0 ≡ getD (framesOf (b ∷ bs)) u 0 → ⊥
   apart t u ht lo hu e =
       let x : b .start .0 + t ≡ getD (framesOf (b ∷ bs)) u 0 = sym (frame-first b bs t ht) ∙ e in
-      without-out free (b .order) (b .start .0) _ (took-start F free left b w) (rest-at u lo hu .1) (rw x at (head-in t ht))
+      without-out free (b .order) (b .start .0) _ (w .starts) (rest-at u lo hu .1) (rw x at (head-in t ht))
 
   good-cons : Good F free (framesOf (b ∷ bs))
   good-cons = record {
@@ -227,51 +258,53 @@ good-nil : (F : ℕ) (free : ℕ → Bool) → Good F free (framesOf [])
 unfolding framesOf
 good-nil F free = record { inside = λ t h. absurd (not-suc-le-zero h); once = λ t u h. absurd (not-suc-le-zero h) }
 
-pub takes-good : (n F : ℕ) (free : ℕ → Bool) (left : ℕ) → Good F free (framesOf (takeBlocks n F free left))
+pub takes-good : (n F : ℕ) (free : ℕ → Bool) (wish : Option ℕ) (left : ℕ) → Good F free (framesOf (takeBlocks n F free wish left))
 unfolding takeBlocks
-takes-good zero F free left = good-nil F free
-takes-good (suc n) F free left = go (takeBlock F free left) (taking F free left) (λ free' left'. takes-good n F free' left')
+takes-good zero F free wish left = good-nil F free
+takes-good (suc n) F free wish left = go (takeBlock F free wish left) (taking F free wish left) (λ free' wish' left'. takes-good n F free' wish' left')
   where
-    go : (o : Option Block) → Taking F free left o → ((free' : ℕ → Bool) (left' : ℕ) → Good F free' (framesOf (takeBlocks n F free' left')))
-        → Good F free (framesOf (elim o [ none ↦ [] | some b ↦ b ∷ takeBlocks n F (without free (b .order) (b .start .0)) (leftAfter left b) ]))
-    go o (one b w) ih = good-cons F free left b _ w (ih _ _)
+    go : (o : Option Block) → Taking F free left o → ((free' : ℕ → Bool) (wish' : Option ℕ) (left' : ℕ) → Good F free' (framesOf (takeBlocks n F free' wish' left')))
+        → Good F free (framesOf (elim o [ none ↦ [] | some b ↦ b ∷ takeBlocks n F (without free (b .order) (b .start .0)) (wishAfter b) (leftAfter left b) ]))
+    go o (one b w) ih = good-cons F free left b _ w (ih _ _ _)
     go o (end x) ih = good-nil F free
 
 -- enough free frames: as many as asked
-pub takes-all : (n F : ℕ) (free : ℕ → Bool) (left : ℕ) → left ≤ n → left ≤ count F free → length (framesOf (takeBlocks n F free left)) ≡ left
+pub takes-all : (n F : ℕ) (free : ℕ → Bool) (wish : Option ℕ) (left : ℕ) → left ≤ n → left ≤ count F free → length (framesOf (takeBlocks n F free wish left)) ≡ left
 unfolding takeBlocks framesOf
-takes-all zero F free left h c = omega arith
-takes-all (suc n) F free left h c = go (takeBlock F free left) (taking F free left) (λ free' left'. takes-all n F free' left')
+takes-all zero F free wish left h c = omega arith
+takes-all (suc n) F free wish left h c = go (takeBlock F free wish left) (taking F free wish left) (λ free' wish' left'. takes-all n F free' wish' left')
   where
-    go : (o : Option Block) → Taking F free left o → ((free' : ℕ → Bool) (left' : ℕ) → left' ≤ n → left' ≤ count F free' → length (framesOf (takeBlocks n F free' left')) ≡ left')
-        → length (framesOf (elim o [ none ↦ [] | some b ↦ b ∷ takeBlocks n F (without free (b .order) (b .start .0)) (leftAfter left b) ])) ≡ left
+    go : (o : Option Block) → Taking F free left o
+        → ((free' : ℕ → Bool) (wish' : Option ℕ) (left' : ℕ) → left' ≤ n → left' ≤ count F free' → length (framesOf (takeBlocks n F free' wish' left')) ≡ left')
+        → length (framesOf (elim o [ none ↦ [] | some b ↦ b ∷ takeBlocks n F (without free (b .order) (b .start .0)) (wishAfter b) (leftAfter left b) ])) ≡ left
     go o (one b w) ih =
-        let r = ih (without free (b .order) (b .start .0)) (leftAfter left b) (omega (arith, pow-pos (b .order), w .fits)) (omega (arith, took-count F free left b w, w .fits)) in
-        omega (arith, r, w .fits, length-frames b (takeBlocks n F (without free (b .order) (b .start .0)) (leftAfter left b)))
+        let r = ih (without free (b .order) (b .start .0)) (wishAfter b) (leftAfter left b) (omega (arith, pow-pos (b .order), w .fits)) (omega (arith, took-count F free left b w, w .fits)) in
+        omega (arith, r, w .fits, length-frames b (takeBlocks n F (without free (b .order) (b .start .0)) (wishAfter b) (leftAfter left b)))
     go o (end x) ih = by-dec (ℕ-discrete left 0) (λ z. sym z) (λ nz. let f = count-some F free (omega arith) in absurd (x (f .0) (f .1) (f .2) (omega arith)))
 
 -- enough fuel is as good as more
-pub fuel : (n m F : ℕ) (free : ℕ → Bool) (left : ℕ) → left ≤ n → left ≤ m → takeBlocks n F free left ≡ takeBlocks m F free left
+pub fuel : (n m F : ℕ) (free : ℕ → Bool) (wish : Option ℕ) (left : ℕ) → left ≤ n → left ≤ m → takeBlocks n F free wish left ≡ takeBlocks m F free wish left
 unfolding takeBlocks
-fuel zero zero F free left hn hm = refl
-fuel zero (suc m) F free left hn hm = at (takeBlock F free left) (taking F free left)
+fuel zero zero F free wish left hn hm = refl
+fuel zero (suc m) F free wish left hn hm = at (takeBlock F free wish left) (taking F free wish left)
   where
     at : (o : Option Block) → Taking F free left o
-        → _≡_ {A = List Block} [] (elim o [ none ↦ [] | some b ↦ b ∷ takeBlocks m F (without free (b .order) (b .start .0)) (leftAfter left b) ])
+        → _≡_ {A = List Block} [] (elim o [ none ↦ [] | some b ↦ b ∷ takeBlocks m F (without free (b .order) (b .start .0)) (wishAfter b) (leftAfter left b) ])
     at o (one b w) = absurd (omega (arith, w .fits, pow-pos (b .order)))
     at o (end x) = refl
-fuel (suc n) zero F free left hn hm = at (takeBlock F free left) (taking F free left)
+fuel (suc n) zero F free wish left hn hm = at (takeBlock F free wish left) (taking F free wish left)
   where
     at : (o : Option Block) → Taking F free left o
-        → _≡_ {A = List Block} (elim o [ none ↦ [] | some b ↦ b ∷ takeBlocks n F (without free (b .order) (b .start .0)) (leftAfter left b) ]) []
+        → _≡_ {A = List Block} (elim o [ none ↦ [] | some b ↦ b ∷ takeBlocks n F (without free (b .order) (b .start .0)) (wishAfter b) (leftAfter left b) ]) []
     at o (one b w) = absurd (omega (arith, w .fits, pow-pos (b .order)))
     at o (end x) = refl
-fuel (suc n) (suc m) F free left hn hm = at (takeBlock F free left) (taking F free left) (λ free' left'. fuel n m F free' left')
+fuel (suc n) (suc m) F free wish left hn hm = at (takeBlock F free wish left) (taking F free wish left) (λ free' wish' left'. fuel n m F free' wish' left')
   where
-    at : (o : Option Block) → Taking F free left o → ((free' : ℕ → Bool) (left' : ℕ) → left' ≤ n → left' ≤ m → takeBlocks n F free' left' ≡ takeBlocks m F free' left')
-        → _≡_ {A = List Block} (elim o [ none ↦ [] | some b ↦ b ∷ takeBlocks n F (without free (b .order) (b .start .0)) (leftAfter left b) ])
-        (elim o [ none ↦ [] | some b ↦ b ∷ takeBlocks m F (without free (b .order) (b .start .0)) (leftAfter left b) ])
-    at o (one b w) ih = ap {B = List Block} (λ r. b ∷ r) (ih _ _ (omega (arith, w .fits, pow-pos (b .order))) (omega (arith, w .fits, pow-pos (b .order))))
+    at : (o : Option Block) → Taking F free left o
+        → ((free' : ℕ → Bool) (wish' : Option ℕ) (left' : ℕ) → left' ≤ n → left' ≤ m → takeBlocks n F free' wish' left' ≡ takeBlocks m F free' wish' left')
+        → _≡_ {A = List Block} (elim o [ none ↦ [] | some b ↦ b ∷ takeBlocks n F (without free (b .order) (b .start .0)) (wishAfter b) (leftAfter left b) ])
+        (elim o [ none ↦ [] | some b ↦ b ∷ takeBlocks m F (without free (b .order) (b .start .0)) (wishAfter b) (leftAfter left b) ])
+    at o (one b w) ih = ap {B = List Block} (λ r. b ∷ r) (ih _ _ _ (omega (arith, w .fits, pow-pos (b .order))) (omega (arith, w .fits, pow-pos (b .order))))
     at o (end x) ih = refl
 
 -- what is taken depends only on which frames below F are free
@@ -294,26 +327,67 @@ module _ (F : ℕ) (p q : ℕ → Bool) (same : (g : ℕ) → g < F → p g ≡ 
   from-same i none = refl
   from-same i (some j) = ap (cutAt i) (lowest-same j)
 
-  take-same : (o : Option ℕ) → takeOrder F p o ≡ takeOrder F q o
-  unfolding takeOrder
-  take-same none = refl
-  take-same (some i) = from-same i (serving F p i) ∙ ap (takeFrom F q i) (serving-same i)
+  old-same : (i : ℕ) → oldChoice F p i ≡ oldChoice F q i
+  unfolding oldChoice
+  old-same i = from-same i (serving F p i) ∙ ap (takeFrom F q i) (serving-same i)
 
-  pub takeBlock-same : (left : ℕ) → takeBlock F p left ≡ takeBlock F q left
+  take-same : (wish : Option ℕ) (i : ℕ) → takeOrder F p wish i ≡ takeOrder F q wish i
+  unfolding takeOrder
+  take-same none i = old-same i
+  take-same (some s) i = ap (λ (met : Bool). elim met [ true ↦ some (block i s) | false ↦ oldChoice F p i ]) (whole-ext F p q same i s) ∙ ap (λ (o : Option Block). elim (whollyFree F q i s) [ true ↦ some (block i s) | false ↦ o ]) (old-same i)
+
+  pub takeBlock-same : (wish : Option ℕ) (left : ℕ) → takeBlock F p wish left ≡ takeBlock F q wish left
   unfolding takeBlock
-  takeBlock-same left = take-same (orderFor F p left) ∙ ap (takeOrder F q) (order-same left)
+  takeBlock-same wish left = go (orderFor F p left) ∙ ap (λ (o : Option ℕ). elim o [ none ↦ none | some i ↦ takeOrder F q wish i ]) (order-same left)
+    where
+      go : (o : Option ℕ) → _≡_ {A = Option Block} (elim o [ none ↦ none | some i ↦ takeOrder F p wish i ]) (elim o [ none ↦ none | some i ↦ takeOrder F q wish i ])
+      go none = refl
+      go (some i) = take-same wish i
 
   pub without-same : (i s g : ℕ) → g < F → without p i s g ≡ without q i s g
   unfolding without
   without-same i s g h = rw (same g h)
 
-pub takeBlocks-same : (n F : ℕ) (p q : ℕ → Bool) (left : ℕ) → ((g : ℕ) → g < F → p g ≡ q g) → takeBlocks n F p left ≡ takeBlocks n F q left
+pub takeBlocks-same : (n F : ℕ) (p q : ℕ → Bool) (wish : Option ℕ) (left : ℕ) → ((g : ℕ) → g < F → p g ≡ q g) → takeBlocks n F p wish left ≡ takeBlocks n F q wish left
 unfolding takeBlocks
-takeBlocks-same zero F p q left same = refl
-takeBlocks-same (suc n) F p q left same = rw (takeBlock-same F p q same left, takeBlocks) (go (takeBlock F q left) (λ p' q' left' s. takeBlocks-same n F p' q' left' s))
+takeBlocks-same zero F p q wish left same = refl
+takeBlocks-same (suc n) F p q wish left same =
+    rw (takeBlock-same F p q same wish left, takeBlocks) (go (takeBlock F q wish left) (λ p' q' wish' left' s. takeBlocks-same n F p' q' wish' left' s))
   where
-    go : (o : Option Block) → ((p' q' : ℕ → Bool) (left' : ℕ) → ((g : ℕ) → g < F → p' g ≡ q' g) → takeBlocks n F p' left' ≡ takeBlocks n F q' left')
-        → _≡_ {A = List Block} (elim o [ none ↦ [] | some b ↦ b ∷ takeBlocks n F (without p (b .order) (b .start .0)) (leftAfter left b) ])
-        (elim o [ none ↦ [] | some b ↦ b ∷ takeBlocks n F (without q (b .order) (b .start .0)) (leftAfter left b) ])
+    go : (o : Option Block)
+        → ((p' q' : ℕ → Bool) (wish' : Option ℕ) (left' : ℕ) → ((g : ℕ) → g < F → p' g ≡ q' g) → takeBlocks n F p' wish' left' ≡ takeBlocks n F q' wish' left')
+        → _≡_ {A = List Block} (elim o [ none ↦ [] | some b ↦ b ∷ takeBlocks n F (without p (b .order) (b .start .0)) (wishAfter b) (leftAfter left b) ])
+        (elim o [ none ↦ [] | some b ↦ b ∷ takeBlocks n F (without q (b .order) (b .start .0)) (wishAfter b) (leftAfter left b) ])
     go none ih = refl
-    go (some b) ih = ap {B = List Block} (λ r. b ∷ r) (ih _ _ _ (λ g h. without-same F p q same (b .order) (b .start .0) g h))
+    go (some b) ih = ap {B = List Block} (λ r. b ∷ r) (ih _ _ _ _ (λ g h. without-same F p q same (b .order) (b .start .0) g h))
+
+-- a frame at or above F is as no wish
+
+no-wish : (F : ℕ) (free : ℕ → Bool) (s i : ℕ) → F ≤ s → whollyFree F free i s ≡ false
+no-wish F free s i h =
+    by-test (whollyFree F free i s)
+    (λ t. let w = whole-at F free i s t in let lt = around-at F free i s (w .2) s refl .0 in absurd (omega arith))
+    (λ t. t)
+
+past-pool-block : (F : ℕ) (free : ℕ → Bool) (s left : ℕ) → F ≤ s → takeBlock F free (some s) left ≡ takeBlock F free none left
+unfolding takeBlock
+past-pool-block F free s left h = go (orderFor F free left)
+  where
+    go : (o : Option ℕ) → _≡_ {A = Option Block} (elim o [ none ↦ none | some i ↦ takeOrder F free (some s) i ]) (elim o [ none ↦ none | some i ↦ takeOrder F free none i ])
+    go none = refl
+    go (some i) = order-not-met F free s i (no-wish F free s i h)
+
+pub past-pool-blocks : (n F : ℕ) (free : ℕ → Bool) (s left : ℕ) → F ≤ s → takeBlocks n F free (some s) left ≡ takeBlocks n F free none left
+unfolding takeBlocks
+past-pool-blocks zero F free s left h = refl
+past-pool-blocks (suc n) F free s left h =
+    ap (λ (o : Option Block). elim o [ none ↦ [] | some b ↦ b ∷ takeBlocks n F (without free (b .order) (b .start .0)) (wishAfter b) (leftAfter left b) ]) (past-pool-block F free s left h)
+
+-- so a wish told as a number is the frame of that number, of the pool or not
+pub wish-of : (F : ℕ) (free : ℕ → Bool) (w n left : ℕ) → takeBlocks n F free (some w) left ≡ takeBlocks n F free (wishOf F w) left
+unfolding wishOf
+wish-of F free w n left = go (ltb w F) refl
+  where
+    go : (below : Bool) → ltb w F ≡ below → takeBlocks n F free (some w) left ≡ takeBlocks n F free (elim below [ true ↦ some w | false ↦ none ]) left
+    go true t = refl
+    go false t = past-pool-blocks n F free w left (ltb-false _ _ t)

@@ -6,7 +6,7 @@ use native.Mathlib.Decide.{decLe}
 use native.Mathlib.Omega.{arith}
 use lib.Pow.{pow-pos}
 use borrow.Author.Tests.{leb-true, le-leb, eqb-true, eq-eqb, not-true}
-use Rattle.words.proofs.Cases.{by-test, by-dec, true-false, and-true, true-and}
+use Rattle.words.proofs.Cases.{by-test, by-dec, true-false, and-true, true-and, both-ways}
 use Rattle.words.proofs.SearchLaws.{allFrom-at, at-allFrom, any-at, at-any}
 use Rattle.blocks.specs.Blocks.{pastMultiple, isBlock, liesIn, sizeFor, whollyFree, inLarger, freeBlock}
 use Rattle.blocks.specs.Inner.Around.{startOf, around}
@@ -22,7 +22,7 @@ module _ (F : ℕ) (free : ℕ → Bool) where
     pub maximal : Maximal F free k s
     pub aligned : startOf k s ≡ s
 
-  whole-at : (k s : ℕ) → whollyFree F free k s ≡ true → (k ≤ 10) × (startOf k s ≡ s) × (around F free s k ≡ true)
+  pub whole-at : (k s : ℕ) → whollyFree F free k s ≡ true → (k ≤ 10) × (startOf k s ≡ s) × (around F free s k ≡ true)
   unfolding whollyFree isBlock
   whole-at k s t =
       let p = and-true _ _ t in
@@ -39,7 +39,7 @@ module _ (F : ℕ) (free : ℕ → Bool) where
             (omega arith, allFrom-at (2 ^ k) s free (q .1) g (omega arith) (omega arith))),
       )
 
-  at-whole : (k s : ℕ) → k ≤ 10 → startOf k s ≡ s → around F free s k ≡ true → whollyFree F free k s ≡ true
+  pub at-whole : (k s : ℕ) → k ≤ 10 → startOf k s ≡ s → around F free s k ≡ true → whollyFree F free k s ≡ true
   unfolding whollyFree isBlock
   at-whole k s h st t =
       let pos : 0 < 2 ^ k = pow-pos k in
@@ -120,7 +120,10 @@ module _ (F : ℕ) (free : ℕ → Bool) where
       let kj : k ≤ j = by-dec (decLe k j) (λ le. le) (λ gt. true-false (around F free f k) t (m .alone k (omega arith) hk)) in
       (j, kj, m .small, record { inside = s .0; maximal = maximal-same F free j f (startOf j f) (start-in j f) m; aligned = start-start j f })
 
--- which blocks are free depends only on which frames below F are free
+-- which blocks are wholly free, and which are free, depends only on which frames below F are free
+
+whole-half : (F : ℕ) (p q : ℕ → Bool) → ((g : ℕ) → g < F → p g ≡ q g) → (k s : ℕ) → whollyFree F p k s ≡ true → whollyFree F q k s ≡ true
+whole-half F p q same k s t = let w = whole-at F p k s t in at-whole F q k s (w .0) (w .1) (sym (around-ext F p q same s k) ∙ w .2)
 
 free-block-half : (F : ℕ) (p q : ℕ → Bool) → ((g : ℕ) → g < F → p g ≡ q g) → (k s : ℕ) → freeBlock F p k s ≡ true → freeBlock F q k s ≡ true
 free-block-half F p q same k s t =
@@ -136,10 +139,8 @@ free-block-half F p q same k s t =
       aligned = b .aligned;
     })
 
+pub whole-ext : (F : ℕ) (p q : ℕ → Bool) → ((g : ℕ) → g < F → p g ≡ q g) → (k s : ℕ) → whollyFree F p k s ≡ whollyFree F q k s
+whole-ext F p q same k s = both-ways _ _ (whole-half F p q same k s) (whole-half F q p (λ g h. sym (same g h)) k s)
+
 pub free-block-ext : (F : ℕ) (p q : ℕ → Bool) → ((g : ℕ) → g < F → p g ≡ q g) → (k s : ℕ) → freeBlock F p k s ≡ freeBlock F q k s
-free-block-ext F p q same k s =
-    by-test (freeBlock F p k s)
-    (λ t. t ∙ sym (free-block-half F p q same k s t))
-    (λ t. by-test (freeBlock F q k s)
-    (λ u. true-false (freeBlock F p k s) (free-block-half F q p (λ g h. sym (same g h)) k s u) t)
-    (λ u. t ∙ sym u))
+free-block-ext F p q same k s = both-ways _ _ (free-block-half F p q same k s) (free-block-half F q p (λ g h. sym (same g h)) k s)

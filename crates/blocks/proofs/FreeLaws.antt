@@ -1,6 +1,7 @@
 -- Counting free frames, freeing, and that freeing undoes an allocation.
 use mathlib.Core.Path.{_≡_, refl, ap, _∙_, sym}
 use mathlib.Core.Bool.{Bool, true, false}
+use mathlib.Core.Option.{Option}
 use mathlib.Core.List.{List, [], _∷_}
 use Prim.Native.Nat.{ℕ, zero, suc, _+_, _-_, _<_, _≤_, zero-le}
 use native.Mathlib.Nat.{not-suc-le-zero, add-zero, zero-add}
@@ -171,34 +172,34 @@ module _ (F : ℕ) (owner : ℕ → ℕ) (free : ℕ → Bool) (o : ℕ) (fs : L
           let fr : owner g ≡ 0 = is-free g (rw e at (good .inside t h .1)) in
           sym (clear-in o (length fs) (o + t) (omega arith) (omega arith)) ∙ sym fr
 
-module _ (F : ℕ) (b : List ℕ) (l : Lawful F b) (o n : ℕ) (enough : n ≤ count F (freeIn b)) (room : o + n ≤ 4097) where
+module _ (F : ℕ) (b : List ℕ) (l : Lawful F b) (o : ℕ) (wish : Option ℕ) (n : ℕ) (enough : n ≤ count F (freeIn b)) (room : o + n ≤ 4097) where
   frames : List ℕ
-  frames = framesFor F (freeIn b) n
+  frames = framesFor F (freeIn b) wish n
 
-  good : Good F (freeIn b) (framesFor F (freeIn b) n)
+  good : Good F (freeIn b) (framesFor F (freeIn b) wish n)
   unfolding framesFor blocksFor
-  good = takes-good n F (freeIn b) n
+  good = takes-good n F (freeIn b) wish n
 
-  many : length (framesFor F (freeIn b) n) ≡ n
+  many : length (framesFor F (freeIn b) wish n) ≡ n
   unfolding framesFor blocksFor
-  many = takes-all n F (freeIn b) n (omega arith) enough
+  many = takes-all n F (freeIn b) wish n (omega arith) enough
 
   -- the words after an allocation name just its owners
-  pub allocated-owners : ownersOf (frameWords F (give (ownersOf b) o (framesFor F (freeIn b) n))) ≡ give (ownersOf b) o (framesFor F (freeIn b) n)
+  pub allocated-owners : ownersOf (frameWords F (give (ownersOf b) o (framesFor F (freeIn b) wish n))) ≡ give (ownersOf b) o (framesFor F (freeIn b) wish n)
   allocated-owners =
-      owners-again F (give (ownersOf b) o (framesFor F (freeIn b) n))
-      (given-low (ownersOf b) o (framesFor F (freeIn b) n) (λ g. owners-small b g) (omega (arith, many)))
-      (given-high F (ownersOf b) (freeIn b) o (framesFor F (freeIn b) n) good (λ g h. owners-high F b l g h)) (l .small)
+      owners-again F (give (ownersOf b) o (framesFor F (freeIn b) wish n))
+      (given-low (ownersOf b) o (framesFor F (freeIn b) wish n) (λ g. owners-small b g) (omega (arith, many)))
+      (given-high F (ownersOf b) (freeIn b) o (framesFor F (freeIn b) wish n) good (λ g h. owners-high F b l g h)) (l .small)
 
   -- an allocation, and then the freeing of its owners, leaves the words as they were
   pub freed-again : ((g : ℕ) → o ≤ ownersOf b g → ownersOf b g < o + n → ⊥)
-      → frameWords F (freed (ownersOf (frameWords F (give (ownersOf b) o (framesFor F (freeIn b) n)))) o n) ≡ b
+      → frameWords F (freed (ownersOf (frameWords F (give (ownersOf b) o (framesFor F (freeIn b) wish n)))) o n) ≡ b
   freed-again nobody =
-      let nob : (g : ℕ) → o ≤ ownersOf b g → ownersOf b g < o + length (framesFor F (freeIn b) n) → ⊥ = λ g x y. nobody g x (omega (arith, many, y)) in
+      let nob : (g : ℕ) → o ≤ ownersOf b g → ownersOf b g < o + length (framesFor F (freeIn b) wish n) → ⊥ = λ g x y. nobody g x (omega (arith, many, y)) in
       ap (λ (q : ℕ → ℕ). frameWords F (freed q o n)) allocated-owners
-      ∙ words-ext F (freed (give (ownersOf b) o (framesFor F (freeIn b) n)) o n) (ownersOf b)
-      (λ g h. ap (λ (m : ℕ). freed (give (ownersOf b) o (framesFor F (freeIn b) n)) o m g) (sym many)
-      ∙ freed-given F (ownersOf b) (freeIn b) o (framesFor F (freeIn b) n) good (λ x t. free-zero b x t) nob g)
+      ∙ words-ext F (freed (give (ownersOf b) o (framesFor F (freeIn b) wish n)) o n) (ownersOf b)
+      (λ g h. ap (λ (m : ℕ). freed (give (ownersOf b) o (framesFor F (freeIn b) wish n)) o m g) (sym many)
+      ∙ freed-given F (ownersOf b) (freeIn b) o (framesFor F (freeIn b) wish n) good (λ x t. free-zero b x t) nob g)
       ∙ sym (lawful-table F b l)
 
 -- whether owners of a span hold frames

@@ -5,6 +5,8 @@ pub mod ChoiceLaws
 pub mod SettleLaws
 pub mod HeldLaws
 pub mod SearchedLaws
+pub mod WishLaws
+pub mod ChoosingLaws
 pub mod TakeLaws
 pub mod AllocateLaws
 pub mod MarkLaws

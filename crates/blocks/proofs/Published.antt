@@ -2,7 +2,7 @@
 use mathlib.Core.Path.{_≡_, refl, ap, _∙_, sym}
 use mathlib.Core.Bool.{Bool, true, false}
 use mathlib.Core.List.{List, [], _∷_}
-use mathlib.Core.Option.{Option, some}
+use mathlib.Core.Option.{Option, none, some}
 use Prim.Native.Nat.{ℕ, _+_, _-_, _^_, _<_, _≤_, zero-le}
 use native.Mathlib.Nat.{add-zero, zero-add}
 use native.Mathlib.Decide.{decLt}
@@ -16,12 +16,13 @@ use Rattle.blocks.specs.declared.Block.{Block}
 use Rattle.blocks.specs.declared.Bound.{Bound}
 use Rattle.blocks.specs.declared.Chosen.{Chosen}
 use Rattle.blocks.specs.FrameWords.{isPoolSize, isOwner, ownerOf, ownersOf, freeOf, freeIn, lawful, frameWords}
-use Rattle.blocks.specs.Choice.{takeBlock, takeBlocks, framesOf, blocksFor, framesFor, blockCount}
+use Rattle.blocks.specs.Choice.{takeBlock, endOf, takeBlocks, framesOf, blocksFor, framesFor, blockCount}
 use Rattle.blocks.specs.Owners.{give, inSpan, freed, holds}
-use Rattle.blocks.specs.Inner.Taking.{Searched, nothingKnown, BlockTaken, Stands, Previewed, BlockMarked}
+use Rattle.blocks.specs.Inner.Taking.{Searched, nothingKnown, BlockTaken}
+use Rattle.blocks.specs.Inner.Marks.{Marking, Previewed, BlockMarked}
 use Rattle.blocks.proofs.WordLaws.{owners-small, lawful-is, lawful-yes, table-lawful}
 use Rattle.blocks.proofs.WordLaws
-use Rattle.blocks.proofs.ChoiceLaws.{Good, takes-good, takes-all, Taking, taking, one, end, frame-first, frame-rest, takeBlocks-same}
+use Rattle.blocks.proofs.ChoiceLaws.{Good, takes-good, takes-all, Taking, taking, one, end, frame-first, frame-rest, takeBlocks-same, past-pool-blocks}
 use Rattle.blocks.proofs.SearchedLaws.{nothing-known}
 use Rattle.blocks.proofs.AllocateLaws.{Rest, rest-of}
 use Rattle.blocks.proofs.MarkLaws.{nothing-marked}
@@ -36,16 +37,16 @@ pub record Fresh (F : ℕ) (free : ℕ → Bool) (n : ℕ) (fs : List ℕ) : Typ
   pub unheld : (t : ℕ) → t < n → free (getD fs t 0) ≡ true
   pub once : (t u : ℕ) → t < n → u < n → getD fs t 0 ≡ getD fs u 0 → t ≡ u
 
-good-frames : (F : ℕ) (free : ℕ → Bool) (n : ℕ) → Good F free (framesFor F free n)
+good-frames : (F : ℕ) (free : ℕ → Bool) (wish : Option ℕ) (n : ℕ) → Good F free (framesFor F free wish n)
 unfolding framesFor blocksFor
-good-frames F free n = takes-good n F free n
+good-frames F free wish n = takes-good n F free wish n
 
 -- exactly n where n are free
-pub frames-fresh : (F : ℕ) (free : ℕ → Bool) (n : ℕ) → n ≤ count F free → Fresh F free n (framesFor F free n)
+pub frames-fresh : (F : ℕ) (free : ℕ → Bool) (wish : Option ℕ) (n : ℕ) → n ≤ count F free → Fresh F free n (framesFor F free wish n)
 unfolding framesFor blocksFor
-frames-fresh F free n enough =
-    let m : length (framesFor F free n) ≡ n = takes-all n F free n (omega arith) enough in
-    let g = good-frames F free n in
+frames-fresh F free wish n enough =
+    let m : length (framesFor F free wish n) ≡ n = takes-all n F free wish n (omega arith) enough in
+    let g = good-frames F free wish n in
     record {
       many = m;
       below = λ t h. g .inside t (omega arith) .0;
@@ -54,17 +55,22 @@ frames-fresh F free n enough =
     }
 
 -- a block can always be taken while a frame is free and a page is left
-pub block-there : (F : ℕ) (free : ℕ → Bool) (left f : ℕ) → 1 ≤ left → f < F → free f ≡ true → (b : Block) × (takeBlock F free left ≡ some b)
-block-there F free left f pos h t = go (takeBlock F free left) refl (taking F free left)
+pub block-there : (F : ℕ) (free : ℕ → Bool) (wish : Option ℕ) (left f : ℕ) → 1 ≤ left → f < F → free f ≡ true → (b : Block) × (takeBlock F free wish left ≡ some b)
+block-there F free wish left f pos h t = go (takeBlock F free wish left) refl (taking F free wish left)
   where
-    go : (o : Option Block) → takeBlock F free left ≡ o → Taking F free left o → (b : Block) × (takeBlock F free left ≡ some b)
+    go : (o : Option Block) → takeBlock F free wish left ≡ o → Taking F free left o → (b : Block) × (takeBlock F free wish left ≡ some b)
     go o e (one b w) = (b, e)
     go o e (end n) = absurd (n f h t pos)
 
--- the result depends only on which frames below F are free
-pub blocks-same : (F : ℕ) (p q : ℕ → Bool) (n : ℕ) → ((g : ℕ) → g < F → p g ≡ q g) → blocksFor F p n ≡ blocksFor F q n
+-- the result depends only on which frames below F are free, and on the wish
+pub blocks-same : (F : ℕ) (p q : ℕ → Bool) (wish : Option ℕ) (n : ℕ) → ((g : ℕ) → g < F → p g ≡ q g) → blocksFor F p wish n ≡ blocksFor F q wish n
 unfolding blocksFor
-blocks-same F p q n same = takeBlocks-same n F p q n same
+blocks-same F p q wish n same = takeBlocks-same n F p q wish n same
+
+-- a frame that is not of the pool is no wish
+pub blocks-past : (F : ℕ) (free : ℕ → Bool) (w n : ℕ) → F ≤ w → blocksFor F free (some w) n ≡ blocksFor F free none n
+unfolding blocksFor
+blocks-past F free w n h = past-pool-blocks n F free w n h
 
 -- pool sizes
 
@@ -125,8 +131,9 @@ module _ (F : ℕ) (o : ℕ → ℕ) (low : (g : ℕ) → o g ≤ 4096) (high : 
 -- giving and freeing
 
 -- the frame of page t is owned by o + t, and a frame that is not given keeps its owner
-pub owner-given : (F : ℕ) (free : ℕ → Bool) (owner : ℕ → ℕ) (o n t : ℕ) → n ≤ count F free → t < n → give owner o (framesFor F free n) (getD (framesFor F free n) t 0) ≡ o + t
-owner-given F free owner o n t enough h = given-at F free owner o (framesFor F free n) (good-frames F free n) t (omega (arith, frames-fresh F free n enough .many))
+pub owner-given : (F : ℕ) (free : ℕ → Bool) (wish : Option ℕ) (owner : ℕ → ℕ) (o n t : ℕ) → n ≤ count F free → t < n
+    → give owner o (framesFor F free wish n) (getD (framesFor F free wish n) t 0) ≡ o + t
+owner-given F free wish owner o n t enough h = given-at F free owner o (framesFor F free wish n) (good-frames F free wish n) t (omega (arith, frames-fresh F free wish n enough .many))
 
 pub owner-kept : (owner : ℕ → ℕ) (o : ℕ) (fs : List ℕ) (g : ℕ) → ((t : ℕ) → t < length fs → getD fs t 0 ≡ g → ⊥) → give owner o fs g ≡ owner g
 owner-kept = given-other
@@ -141,28 +148,28 @@ unfolding freed
 freed-out owner o n f t = sym (cleared-out o n (owner f) t)
 
 -- freeing what was allocated gives back the very same words
-pub free-allocated : (F : ℕ) (b : List ℕ) (o n : ℕ) → lawful F b ≡ true → n ≤ count F (freeIn b) → 1 ≤ o → o + n ≤ 4097 → anyFrom n o (holds F (ownersOf b)) ≡ false
-    → frameWords F (freed (ownersOf (frameWords F (give (ownersOf b) o (framesFor F (freeIn b) n)))) o n) ≡ b
-free-allocated F b o n t enough pos room nobody =
+pub free-allocated : (F : ℕ) (b : List ℕ) (o : ℕ) (wish : Option ℕ) (n : ℕ) → lawful F b ≡ true → n ≤ count F (freeIn b) → 1 ≤ o → o + n ≤ 4097 → anyFrom n o (holds F (ownersOf b)) ≡ false
+    → frameWords F (freed (ownersOf (frameWords F (give (ownersOf b) o (framesFor F (freeIn b) wish n)))) o n) ≡ b
+free-allocated F b o wish n t enough pos room nobody =
     let l = lawful-is F b t in
-    freed-again F b l o n enough room (λ g lo hi. by-dec (decLt g F)
+    freed-again F b l o wish n enough room (λ g lo hi. by-dec (decLt g F)
     (λ h. nobody-holds b o n F nobody g h lo hi)
     (λ ge. let z = WordLaws.owners-high F b l g (omega arith) in omega arith))
 
 -- a request served block after block, by calls that each take one block
 
--- n pages were asked for the owners from o on where the words were b₀. So many blocks are taken, which serve the first `done` pages; the words are b now, and the searches have shown `known`.
--- The whole answer is what is taken so far, and the answer for the rest.
-pub record Going (F : ℕ) (b₀ : List ℕ) (o n : ℕ) (b : List ℕ) (done blocks : ℕ) (known : Bound) : Type 0 where
+-- n pages were asked for the owners from o on with a wish w₀, where the words were b₀. So many blocks are taken, which serve the first `done` pages; the words are b now, the next wish is w, and the searches have
+-- shown `known`. The whole answer is what is taken so far, and the answer for the rest.
+pub record Going (F : ℕ) (b₀ : List ℕ) (o w₀ n : ℕ) (b : List ℕ) (w done blocks : ℕ) (known : Bound) : Type 0 where
   pub owners : (1 ≤ o) × (o + n ≤ 4097)
   pub lawful : lawful F b ≡ true
   pub at-most : done ≤ n
   pub few : blocks ≤ done
   pub enough : n - done ≤ count F (freeIn b)
   pub searched : Searched F (freeIn b) known
-  pub blocks-are : blockCount F (freeIn b₀) n ≡ blocks + blockCount F (freeIn b) (n - done)
-  pub frames-are : (t : ℕ) → getD (framesFor F (freeIn b₀) n) (done + t) 0 ≡ getD (framesFor F (freeIn b) (n - done)) t 0
-  pub owners-are : give (ownersOf b₀) o (framesFor F (freeIn b₀) n) ≡ give (ownersOf b) (o + done) (framesFor F (freeIn b) (n - done))
+  pub blocks-are : blockCount F (freeIn b₀) (some w₀) n ≡ blocks + blockCount F (freeIn b) (some w) (n - done)
+  pub frames-are : (t : ℕ) → getD (framesFor F (freeIn b₀) (some w₀) n) (done + t) 0 ≡ getD (framesFor F (freeIn b) (some w) (n - done)) t 0
+  pub owners-are : give (ownersOf b₀) o (framesFor F (freeIn b₀) (some w₀) n) ≡ give (ownersOf b) (o + done) (framesFor F (freeIn b) (some w) (n - done))
 
 -- where the next block lies, and that its frames are those of the next pages; fs are the frames of all pages
 pub record Placed (F : ℕ) (fs : List ℕ) (n done : ℕ) (x : Block) : Type 0 where
@@ -172,8 +179,8 @@ pub record Placed (F : ℕ) (fs : List ℕ) (n done : ℕ) (x : Block) : Type 0 
   pub frames : (t : ℕ) → t < 2 ^ (x .order) → getD fs (done + t) 0 ≡ x .start .0 + t
 
 -- before the first block
-pub going-start : (F : ℕ) (b : List ℕ) (o n : ℕ) (known : Bound) → lawful F b ≡ true → n ≤ count F (freeIn b) → 1 ≤ o → o + n ≤ 4097 → known ≡ nothingKnown → Going F b o n b 0 0 known
-going-start F b o n known lw enough pos room e =
+pub going-start : (F : ℕ) (b : List ℕ) (o w n : ℕ) (known : Bound) → lawful F b ≡ true → n ≤ count F (freeIn b) → 1 ≤ o → o + n ≤ 4097 → known ≡ nothingKnown → Going F b o w n b w 0 0 known
+going-start F b o w n known lw enough pos room e =
     let z : n - 0 ≡ n = omega arith in
     record {
       owners = (pos, room);
@@ -187,17 +194,17 @@ going-start F b o n known lw enough pos room e =
       owners-are = rw (z, add-zero o) refl;
     }
 
-module _ (F : ℕ) (b₀ : List ℕ) (o n : ℕ) (b : List ℕ) (done blocks : ℕ) (known : Bound) (s : Going F b₀ o n b done blocks known) where
-  module _ (lt : done < n) (r : Chosen) (b′ : List ℕ) (t : BlockTaken F b (o + done) (n - done) r b′) where
-    rest : Rest F b (o + done) (n - done) (r .block) b′
-    rest = let w = s .owners in rest-of F b (o + done) (n - done) r b′ (s .lawful) (omega arith) (omega arith) (s .enough) t
+module _ (F : ℕ) (b₀ : List ℕ) (o w₀ n : ℕ) (b : List ℕ) (w done blocks : ℕ) (known : Bound) (s : Going F b₀ o w₀ n b w done blocks known) where
+  module _ (lt : done < n) (r : Chosen) (b′ : List ℕ) (t : BlockTaken F b (o + done) w (n - done) r b′) where
+    rest : Rest F b (o + done) w (n - done) (r .block) b′
+    rest = let os = s .owners in rest-of F b (o + done) w (n - done) r b′ (s .lawful) (omega arith) (omega arith) (s .enough) t
 
-    rest-frames : framesFor F (freeIn b) (n - done) ≡ framesOf (r .block ∷ blocksFor F (freeIn b′) (n - done - 2 ^ (r .block .order)))
+    rest-frames : framesFor F (freeIn b) (some w) (n - done) ≡ framesOf (r .block ∷ blocksFor F (freeIn b′) (some (endOf (r .block))) (n - done - 2 ^ (r .block .order)))
     unfolding framesFor
     rest-frames = ap framesOf (rest .blocks)
 
     -- what can be said of the next block
-    pub next-placed : Placed F (framesFor F (freeIn b₀) n) n done (r .block)
+    pub next-placed : Placed F (framesFor F (freeIn b₀) (some w₀) n) n done (r .block)
     next-placed =
         record {
           small = rest .small;
@@ -206,10 +213,9 @@ module _ (F : ℕ) (b₀ : List ℕ) (o n : ℕ) (b : List ℕ) (done blocks : �
           frames = λ u h. s .frames-are u ∙ ap (λ (l : List ℕ). getD l u 0) rest-frames ∙ frame-first (r .block) _ u h;
         }
 
-    -- one block more; z is its size as the code has it
-    pub going-on : (z : ℕ) → z ≡ 2 ^ (r .block .order) → Going F b₀ o n b′ (done + z) (blocks + 1) (r .known)
+    on-from : (z : ℕ) → z ≡ 2 ^ (r .block .order) → Going F b₀ o w₀ n b′ (endOf (r .block)) (done + z) (blocks + 1) (r .known)
     unfolding blockCount framesFor
-    going-on z ze =
+    on-from z ze =
         let x : Block = r .block in
         let fits = rest .fits in
         let some-frames : 0 < 2 ^ (x .order) = pow-pos (x .order) in
@@ -231,42 +237,53 @@ module _ (F : ℕ) (b₀ : List ℕ) (o n : ℕ) (b : List ℕ) (done blocks : �
           owners-are = s .owners-are ∙ rest .given ∙ rw (left, on) refl;
         }
 
+    -- one block more; z is its size as the code has it, and e the frame after it
+    pub going-on : (z e : ℕ) → z ≡ 2 ^ (r .block .order) → e ≡ endOf (r .block) → Going F b₀ o w₀ n b′ e (done + z) (blocks + 1) (r .known)
+    going-on z e ze ee = rw ee (on-from z ze)
+
   -- no page is left
   module _ (all : n ≤ done) where
     none-left : n - done ≡ 0
     none-left = omega (arith, all)
 
-    pub all-blocks : blocks ≡ blockCount F (freeIn b₀) n
+    pub all-blocks : blocks ≡ blockCount F (freeIn b₀) (some w₀) n
     unfolding blockCount blocksFor takeBlocks
     all-blocks = sym (s .blocks-are ∙ rw none-left (omega arith))
 
-    pub all-words : b ≡ frameWords F (give (ownersOf b₀) o (framesFor F (freeIn b₀) n))
+    pub all-words : b ≡ frameWords F (give (ownersOf b₀) o (framesFor F (freeIn b₀) (some w₀) n))
     unfolding framesFor blocksFor takeBlocks framesOf give
     all-words = own-table F b (s .lawful) ∙ ap (frameWords F) (sym (s .owners-are ∙ rw none-left refl))
 
--- the same request with marks in place of written words: b are the words lent, and the marks m stand for the words that it would have by now. Owners stand in no word lent, so any do
-pub record Trying (F : ℕ) (b : List ℕ) (n : ℕ) (m : List ℕ) (done blocks : ℕ) (known : Bound) : Type 0 where
+-- the same request with marks in place of written words: b are the words lent, and the marks m are of the words that it would have by now. Owners stand in no word lent, so any do
+pub record Trying (F : ℕ) (b : List ℕ) (w₀ n : ℕ) (m : List ℕ) (w done blocks : ℕ) (known : Bound) : Type 0 where
   pub words : List ℕ
-  pub going : Going F b 1 n words done blocks known
-  pub stands : Stands F b m words
+  pub going : Going F b 1 w₀ n words w done blocks known
+  pub marking : Marking F b m words w (n - done)
 
-pub trying-start : (F : ℕ) (b : List ℕ) (n : ℕ) (known : Bound) → lawful F b ≡ true → n ≤ count F (freeIn b) → n ≤ 4096 → known ≡ nothingKnown → Trying F b n (replicate 22 0) 0 0 known
-trying-start F b n known lw enough few e = record { words = b; going = going-start F b 1 n known lw enough (omega arith) (omega arith) e; stands = nothing-marked F b 22 lw }
+pub trying-start : (F : ℕ) (b : List ℕ) (w n : ℕ) (known : Bound) → lawful F b ≡ true → n ≤ count F (freeIn b) → n ≤ 4096 → ((f : ℕ) → w ≡ f + 1 → w < F → freeIn b f ≡ false) → known ≡ nothingKnown → Trying F b w n (replicate 129 0) w 0 0 known
+trying-start F b w n known lw enough few behind e =
+    record { words = b; going = going-start F b 1 w n known lw enough (omega arith) (omega arith) e; marking = nothing-marked F b w (n - 0) 129 lw (record { taken = behind }) }
 
-module _ (F : ℕ) (b : List ℕ) (n : ℕ) (m : List ℕ) (done blocks : ℕ) (known : Bound) (s : Trying F b n m done blocks known) where
+module _ (F : ℕ) (b : List ℕ) (w₀ n : ℕ) (m : List ℕ) (w done blocks : ℕ) (known : Bound) (s : Trying F b w₀ n m w done blocks known) where
   -- what the next block asks
-  pub trying-asks : Previewed F b m (n - done) known
-  trying-asks = record { words = s .words; stands = s .stands; searched = s .going .searched; enough = s .going .enough }
+  pub trying-asks : Previewed F b m w (n - done) known
+  trying-asks = record { words = s .words; marking = s .marking; searched = s .going .searched; enough = s .going .enough }
 
-  module _ (lt : done < n) (r : Chosen) (m′ : List ℕ) (t : BlockMarked F b m (n - done) known r m′) where
-    next : (w : List ℕ) × BlockTaken F (s .words) (1 + done) (n - done) r w × Stands F b m′ w
-    next = let o = s .going .owners in t .marked (s .words) (1 + done) (s .stands) (s .going .searched) (s .going .enough) (omega arith) (omega (arith, o .1))
+  module _ (lt : done < n) (r : Chosen) (m′ : List ℕ) (t : BlockMarked F b m w (n - done) known r m′) where
+    next : (v : List ℕ) × BlockTaken F (s .words) (1 + done) w (n - done) r v × Marking F b m′ v (endOf (r .block)) (n - done - 2 ^ (r .block .order))
+    next = let o = s .going .owners in t .marked (s .words) (1 + done) (s .marking) (s .going .searched) (s .going .enough) (omega arith) (omega (arith, o .1))
 
-    pub trying-placed : Placed F (framesFor F (freeIn b) n) n done (r .block)
-    trying-placed = next-placed F b 1 n (s .words) done blocks known (s .going) lt r (next .0) (next .1)
+    pub trying-placed : Placed F (framesFor F (freeIn b) (some w₀) n) n done (r .block)
+    trying-placed = next-placed F b 1 w₀ n (s .words) w done blocks known (s .going) lt r (next .0) (next .1)
 
-    pub trying-on : (z : ℕ) → z ≡ 2 ^ (r .block .order) → Trying F b n m′ (done + z) (blocks + 1) (r .known)
-    trying-on z ze = record { words = next .0; going = going-on F b 1 n (s .words) done blocks known (s .going) lt r (next .0) (next .1) z ze; stands = next .2 }
+    pub trying-on : (z e : ℕ) → z ≡ 2 ^ (r .block .order) → e ≡ endOf (r .block) → Trying F b w₀ n m′ e (done + z) (blocks + 1) (r .known)
+    trying-on z e ze ee =
+        let left : n - done - 2 ^ (r .block .order) ≡ n - (done + z) = omega arith in
+        record {
+          words = next .0;
+          going = going-on F b 1 w₀ n (s .words) w done blocks known (s .going) lt r (next .0) (next .1) z e ze ee;
+          marking = rw (ee, ← left) (next .2);
+        }
 
 -- the frames of a block, from its start on
 pub block-frames : (x : Block) (t : ℕ) → t < 2 ^ (x .order) → getD (framesOf (x ∷ [])) t 0 ≡ x .start .0 + t

@@ -1,4 +1,4 @@
--- The first order tried that has a free block gives the block that the rule takes, and what is known after it.
+-- The first order tried that has a free block gives the old choice, and what is known after it.
 use mathlib.Core.Path.{_≡_, refl, ap, _∙_, sym}
 use mathlib.Core.Bool.{Bool, true, false}
 use mathlib.Core.List.{List}
@@ -9,44 +9,32 @@ use native.Mathlib.Omega.{arith}
 use lib.Dec.{eqb, leb, ltb}
 use lib.ListN.{getD}
 use lib.Pow.{pow-mono}
-use borrow.Author.Tests.{leb-true, le-leb, lt-leb, eqb-true, eq-eqb, ne-eqb, lt-ltb, le-ltb, ltb-true}
+use borrow.Author.Tests.{leb-true, leb-false, le-leb, lt-leb, eqb-true, eq-eqb, ne-eqb, lt-ltb, le-ltb}
 use Rattle.words.specs.Searches.{largest, firstFrom, is-some}
-use Rattle.words.proofs.Cases.{by-test, by-dec, true-false, none-some, not-there}
+use Rattle.words.proofs.Cases.{by-test, by-dec, true-false, and-false, none-some, not-there}
 use Rattle.words.proofs.SearchLaws.{First, found, missing, firstFrom-is, first-unique, first-none, Largest, greatest, nothing, largest-is, largest-unique, largest-none, some-is, none-is}
 use Rattle.words.proofs.PowerLaws.{double}
 use Rattle.blocks.specs.declared.Block.{Block}
 use Rattle.blocks.specs.declared.Bound.{Bound}
 use Rattle.blocks.specs.Blocks.{block, freeBlock}
 use Rattle.blocks.specs.FrameWords.{freeIn, lawful}
-use Rattle.blocks.specs.Choice.{lowest, serving, isServed, orderFor, cutAt, takeFrom, takeOrder, takeBlock, without}
+use Rattle.blocks.specs.Choice.{lowest, serving, isServed, orderFor, cutAt, takeFrom, oldChoice, takeOrder, takeBlock, without}
 use Rattle.blocks.specs.Inner.Around.{startOf, around}
 use Rattle.blocks.specs.Inner.Taking.{Clear, Searched, nothingKnown}
-use Rattle.blocks.specs.Inner.Passes.{orderWithin, orderAt, least, asBlock, scanFrom, boundAfter}
+use Rattle.blocks.specs.Inner.Passes.{orderWithin, orderAt, least, TopOrder, asBlock, scanFrom, boundAfter}
 use Rattle.blocks.proofs.AroundLaws.{start-next, in-block, block-in, start-same, start-start, around-at, at-around, without-free}
 use Rattle.blocks.proofs.FreeBlockLaws.{BlockAt, free-block-at, at-free-block, in-block-at}
 use Rattle.blocks.proofs.WordLaws.{lawful-is, word-block, no-block}
-use Rattle.blocks.proofs.ChoiceLaws.{lowest-at, at-lowest, serving-at, at-serving, at-served, takeOrder-eq}
+use Rattle.blocks.proofs.ChoiceLaws.{lowest-at, at-lowest, serving-at, at-serving, at-served, old-choice}
 
 -- the order that fits the pages left
 
-pub order-up : (left k z : ℕ) → z ≡ 2 ^ k → z ≤ left → left < z + z → k ≤ 10 → orderWithin left ≡ some k
-unfolding orderWithin
-order-up left k z e fits less h =
-    largest-unique 10 (λ i. leb (2 ^ i) left) k h (le-leb (2 ^ k) left (omega arith)) (λ j kj hj.
-    let d = double k in
-    let m : 2 ^ (k + 1) ≤ 2 ^ j = pow-mono (omega arith) in
-    lt-leb (2 ^ j) left (omega arith))
+pub record Within (left top : ℕ) : Type 0 where
+  pub small : top ≤ 10
+  pub fits : 2 ^ top ≤ left
+  pub no-more : (m : ℕ) → top < m → m ≤ 10 → leb (2 ^ m) left ≡ false
 
-pub order-top : (left k z : ℕ) → z ≡ 2 ^ k → z ≤ left → 10 ≤ k → k ≤ 10 → orderWithin left ≡ some k
-unfolding orderWithin
-order-top left k z e fits ge le = largest-unique 10 (λ i. leb (2 ^ i) left) k le (le-leb (2 ^ k) left (omega arith)) (λ j kj hj. absurd (omega arith))
-
-record Within (left top : ℕ) : Type 0 where
-  small : top ≤ 10
-  fits : 2 ^ top ≤ left
-  no-more : (m : ℕ) → top < m → m ≤ 10 → leb (2 ^ m) left ≡ false
-
-within : (left top : ℕ) → orderWithin left ≡ some top → Within left top
+pub within : (left top : ℕ) → orderWithin left ≡ some top → Within left top
 unfolding orderWithin
 within left top e = go (largest 10 (λ i. leb (2 ^ i) left)) e (largest-is 10 (λ i. leb (2 ^ i) left))
   where
@@ -55,14 +43,6 @@ within left top e = go (largest 10 (λ i. leb (2 ^ i) left)) e (largest-is 10 (�
         let s : j ≡ top = cc in
         record { small = omega arith; fits = rw (← s) (leb-true _ _ y); no-more = λ i lt le. m i (omega arith) le }
     go o e (nothing m) = none-some top none refl e
-
-order-some : (left : ℕ) → 1 ≤ left → (w : ℕ) × (orderWithin left ≡ some w)
-unfolding orderWithin
-order-some left h = go (largest 10 (λ i. leb (2 ^ i) left)) refl (largest-is 10 (λ i. leb (2 ^ i) left))
-  where
-    go : (o : Option ℕ) → largest 10 (λ i. leb (2 ^ i) left) ≡ o → Largest 10 (λ i. leb (2 ^ i) left) o → (w : ℕ) × (largest 10 (λ i. leb (2 ^ i) left) ≡ some w)
-    go o e (greatest i hi y more) = (i, e)
-    go o e (nothing n) = true-false (leb (2 ^ 0) left) (le-leb (2 ^ 0) left (omega arith)) (n 0 (omega arith))
 
 -- the orders tried
 
@@ -93,6 +73,47 @@ least-is a b m e =
     by-dec (decLt a b)
     (λ lt. let q = least-first a b lt in (omega arith, omega arith, λ h. omega arith))
     (λ ge. let q = least-second a b (omega arith) in (omega arith, omega arith, λ h. absurd (omega arith)))
+
+-- the largest order up to a limit
+
+-- some order fits
+order-there : (left : ℕ) → 1 ≤ left → (L : ℕ) × (orderWithin left ≡ some L)
+unfolding orderWithin
+order-there left pos = go (largest 10 (λ i. leb (2 ^ i) left)) refl (largest-is 10 (λ i. leb (2 ^ i) left))
+  where
+    go : (o : Option ℕ) → largest 10 (λ i. leb (2 ^ i) left) ≡ o → Largest 10 (λ i. leb (2 ^ i) left) o → (L : ℕ) × (largest 10 (λ i. leb (2 ^ i) left) ≡ some L)
+    go o e (greatest j hi y m) = (j, e)
+    go o e (nothing m) = true-false (leb 1 left) (le-leb 1 left pos) (m 0 zero-le)
+
+-- as the code finds it
+pub top-found : (left limit k z : ℕ) → limit ≤ 10 → k ≤ limit → z ≡ 2 ^ k → z ≤ left → (k < limit → left < z + z) → TopOrder left limit k
+top-found left limit k z cap hk e fits less = record {
+  is-least = λ L o.
+      let w = within left L o in
+      let up : k ≤ L = by-dec (decLe k L) (λ le. le) (λ gt. true-false (leb (2 ^ k) left) (le-leb (2 ^ k) left (omega arith)) (w .no-more k (omega arith) (omega arith))) in
+      by-dec (decLt k limit)
+      (λ lt.
+      let d = double k in
+      let same : k ≡ L = by-dec (decLt k L) (λ more. let m : 2 ^ (k + 1) ≤ 2 ^ L = pow-mono (omega arith) in absurd (omega (arith, less lt, w .fits))) (λ le. omega arith) in
+      same ∙ least-first L limit (omega arith))
+      (λ ge. let q = least-second L limit (omega arith) in omega arith);
+}
+
+module _ (left limit top : ℕ) (pos : 1 ≤ left) (found : TopOrder left limit top) where
+  pub top-is : (L : ℕ) × (orderWithin left ≡ some L) × (top ≡ least L limit)
+  top-is = let q = order-there left pos in (q .0, q .1, found .is-least (q .0) (q .1))
+
+  pub top-low : top ≤ limit
+  top-low = least-is _ limit top (top-is .2) .1
+
+  -- up to the largest order of all it is the one that fits
+  pub top-fits : 10 ≤ limit → orderWithin left ≡ some top
+  top-fits all =
+      let q = top-is in
+      let l = least-is (q .0) limit top (q .2) in
+      let w = within left (q .0) (q .1) in
+      let same : q .0 ≡ top = by-dec (decLt top limit) (λ lt. sym (l .2 lt)) (λ ge. omega (arith, l .0, w .small)) in
+      q .1 ∙ ap some same
 
 -- no order tried before t has a free block
 pub None : ℕ → (ℕ → Bool) → ℕ → ℕ → ℕ → Type 0
@@ -128,13 +149,13 @@ NoneAbove F free limit = (k : ℕ) → limit < k → k ≤ 10 → lowest F free 
 
 module _ (F : ℕ) (free : ℕ → Bool) (left : ℕ) where
   taken : (i j s : ℕ) → i ≤ 10 → 2 ^ i ≤ left → serving F free i ≡ some j → lowest F free j ≡ some s
-      → ((m : ℕ) → i < m → m ≤ 10 → isServed F free left m ≡ false) → takeBlock F free left ≡ some (block i s)
-  unfolding takeBlock orderFor
+      → ((m : ℕ) → i < m → m ≤ 10 → isServed F free left m ≡ false) → takeBlock F free none left ≡ some (block i s)
+  unfolding takeBlock orderFor takeOrder
   taken i j s hi fits a b more =
       let o : largest 10 (isServed F free left) ≡ some i = largest-unique 10 (isServed F free left) i hi (at-served F free left i fits (some-is (serving F free i) j a)) more in
-      ap (takeOrder F free) o ∙ takeOrder-eq F free i j s a b
+      ap (λ (o : Option ℕ). elim o [ none ↦ none | some i ↦ oldChoice F free i ]) o ∙ old-choice F free i j s a b
 
-  too-large : (m : ℕ) → leb (2 ^ m) left ≡ false → isServed F free left m ≡ false
+  pub too-large : (m : ℕ) → leb (2 ^ m) left ≡ false → isServed F free left m ≡ false
   unfolding isServed
   too-large m e = rw (e, isServed)
 
@@ -148,8 +169,17 @@ module _ (F : ℕ) (free : ℕ → Bool) (left : ℕ) where
       (λ t. rw (t, isServed))
 
   module _ (limit top L : ℕ) (cap : limit ≤ 10) (above : NoneAbove F free limit) (w : Within left L) (te : top ≡ least L limit) where
+    -- an order above top does not fit, or nothing is free of it or above
+    none-served : (m : ℕ) → top < m → m ≤ 10 → isServed F free left m ≡ false
+    unfolding NoneAbove
+    none-served m lt hi =
+        let q = least-is L limit top te in
+        by-dec (decLe m L)
+        (λ mL. unserved m (λ j lo h. above j (by-dec (decLt top limit) (λ x. let z = q .2 x in absurd (omega arith)) (λ x. omega arith)) h) hi)
+        (λ gt. too-large m (w .no-more m (omega arith) hi))
+
     first-order : (t s : ℕ) → t ≤ limit → None F free limit top t → lowest F free (orderAt limit top t) ≡ some s
-        → takeBlock F free left ≡ some (block (least (orderAt limit top t) top) s)
+        → takeBlock F free none left ≡ some (block (least (orderAt limit top t) top) s)
     unfolding serving NoneAbove
     first-order t s ht n e =
         let q = least-is L limit top te in
@@ -166,9 +196,7 @@ module _ (F : ℕ) (free : ℕ → Bool) (left : ℕ) where
         first-unique (11 - top) top (λ j. is-some (lowest F free j)) (top + t) (omega arith) (omega arith) (some-is _ s a)
         (λ j lo hi. none-is _ (none-up F free limit top t j n lo (omega arith) hi))
         in
-        rw l (taken top (top + t) s (omega arith) (omega arith) sv a (λ m lt hi. by-dec (decLe m L)
-        (λ mL. unserved m (λ j lo h. above j (by-dec (decLt top limit) (λ x. let z = q .2 x in absurd (omega arith)) (λ x. omega arith)) h) hi)
-        (λ gt. too-large m (w .no-more m (omega arith) hi)))))
+        rw l (taken top (top + t) s (omega arith) (omega arith) sv a none-served))
         (λ gt.
         let k : ℕ = limit - t in
         let o : orderAt limit top t ≡ k = sym (tried-down limit top t (omega arith)) in
@@ -185,7 +213,7 @@ module _ (F : ℕ) (free : ℕ → Bool) (left : ℕ) where
         let m : 2 ^ k ≤ 2 ^ top = pow-mono (omega arith) in
         rw l (taken k k s (omega arith) (omega arith) sv a (λ m lt hi. unserved m (λ j lo h. up j (omega arith) h) hi)))
 
-    no-order : None F free limit top (limit + 1) → takeBlock F free left ≡ none
+    no-order : None F free limit top (limit + 1) → takeBlock F free none left ≡ none
     unfolding takeBlock orderFor takeOrder NoneAbove
     no-order n =
         let topl = least-is L limit top te .1 in
@@ -194,7 +222,7 @@ module _ (F : ℕ) (free : ℕ → Bool) (left : ℕ) where
         (λ x. by-dec (decLe top j) (λ ge. none-up F free limit top (limit + 1) j n ge (omega arith) (omega arith)) (λ lt. none-down F free limit top (limit + 1) j topl n (omega arith) (omega arith)))
         in
         let o : largest 10 (isServed F free left) ≡ none = largest-none 10 (isServed F free left) (λ m hi. unserved m (λ j lo h. all j h) hi) in
-        ap (takeOrder F free) o
+        ap (λ (o : Option ℕ). elim o [ none ↦ none | some i ↦ oldChoice F free i ]) o
 
 -- the scan for one order
 
@@ -221,7 +249,7 @@ module _ (F : ℕ) (free : ℕ → Bool) (k f : ℕ) where
   unfolding lowest
   clear-found c h t = first-unique F 0 (freeBlock F free k) f zero-le (omega arith) t (λ j lo hi. c .none-at j hi)
 
-  pub found-clear : lowest F free k ≡ some f → Clear F free k f
+  found-clear : lowest F free k ≡ some f → Clear F free k f
   unfolding lowest
   found-clear e = go (firstFrom F 0 (freeBlock F free k)) e (firstFrom-is F 0 (freeBlock F free k))
     where
@@ -251,7 +279,7 @@ pub scan-other : (x : Bound) (k : ℕ) → (k ≡ x .limit → ⊥) → 0 ≡ sc
 unfolding scanFrom
 scan-other x k n = rw (ne-eqb _ _ n, scanFrom)
 
-as-some : (o : Option Block) (x : Block) → o ≡ some x → x ≡ asBlock o
+pub as-some : (o : Option Block) (x : Block) → o ≡ some x → x ≡ asBlock o
 unfolding asBlock
 as-some o x e = rw e
 
@@ -263,24 +291,40 @@ above-of : (F : ℕ) (free : ℕ → Bool) (x : Bound) → Searched F free x →
 unfolding NoneAbove
 above-of F free x known = known .above
 
+-- the order that is chosen, where earlier searches have shown x: at most the least of its limit and the order that fits
+module _ (F : ℕ) (free : ℕ → Bool) (left : ℕ) (x : Bound) (L top : ℕ) (o : orderWithin left ≡ some L) (te : top ≡ least L (x .limit)) (known : Searched F free x) where
+  pub above-top : (m : ℕ) → top < m → m ≤ 10 → isServed F free left m ≡ false
+  above-top = none-served F free left (x .limit) top L (known .small) (above-of F free x known) (within left L o) te
+
+  pub order-low : (i : ℕ) → orderFor F free left ≡ some i → i ≤ top
+  unfolding orderFor
+  order-low i e = go (largest 10 (isServed F free left)) e (largest-is 10 (isServed F free left))
+    where
+      go : (c : Option ℕ) → c ≡ some i → Largest 10 (isServed F free left) c → i ≤ top
+      go c ce (greatest j hi t m) =
+          let ji : j ≡ i = cc in
+          by-dec (decLe j top) (λ le. omega arith) (λ gt. true-false (isServed F free left j) t (above-top j (omega arith) hi))
+      go c ce (nothing m) = none-some i none refl ce
+
 -- what the search ends with
 
 module _ (F : ℕ) (b : List ℕ) (lw : lawful F b ≡ true) (left : ℕ) (x : Bound) (L top t : ℕ) (o : orderWithin left ≡ some L) (te : top ≡ least L (x .limit)) (known : Searched F (freeIn b) x) where
   pub chosen : (k f m : ℕ) → t < x .limit + 1 → k ≡ orderAt (x .limit) top t → None F (freeIn b) (x .limit) top t → Clear F (freeIn b) k f → f < F → getD b f 0 ≡ 16384 + k
-      → m ≡ least k top → block m f ≡ asBlock (takeBlock F (freeIn b) left)
+      → m ≡ least k top → block m f ≡ asBlock (takeBlock F (freeIn b) none left)
   chosen k f m ht ke n cl h e me =
       let is : lowest F (freeIn b) k ≡ some f = clear-found F (freeIn b) k f cl h (at-free-block F (freeIn b) k f (word-block F b (lawful-is F b lw) k f h e)) in
-      let took : takeBlock F (freeIn b) left ≡ some (block (least (orderAt (x .limit) top t) top) f) =
+      let took : takeBlock F (freeIn b) none left ≡ some (block (least (orderAt (x .limit) top t) top) f) =
       first-order F (freeIn b) left (x .limit) top L (known .small) (above-of F (freeIn b) x known) (within left L o) te t f (omega arith) n (rw (← ke) is)
       in
       let mm : m ≡ least (orderAt (x .limit) top t) top = rw (← ke) me in
       rw mm (as-some _ _ took)
 
-  pub skipped : (k f : ℕ) → k ≡ orderAt (x .limit) top t → None F (freeIn b) (x .limit) top t → Clear F (freeIn b) k f → F ≤ f → None F (freeIn b) (x .limit) top (t + 1)
-  skipped k f ke n cl h = none-more F (freeIn b) (x .limit) top t n (rw (← ke) (clear-none F (freeIn b) k f cl h))
-
-  pub chosen-none : None F (freeIn b) (x .limit) top t → t ≡ x .limit + 1 → block 11 0 ≡ asBlock (takeBlock F (freeIn b) left)
+  pub chosen-none : None F (freeIn b) (x .limit) top t → t ≡ x .limit + 1 → block 11 0 ≡ asBlock (takeBlock F (freeIn b) none left)
   chosen-none n e = as-none _ (no-order F (freeIn b) left (x .limit) top L (known .small) (above-of F (freeIn b) x known) (within left L o) te (rw e at n))
+
+-- the scan for an order has passed the pool
+pub skipped : (F : ℕ) (free : ℕ → Bool) (limit top t k f : ℕ) → k ≡ orderAt limit top t → None F free limit top t → Clear F free k f → F ≤ f → None F free limit top (t + 1)
+skipped F free limit top t k f ke n cl h = none-more F free limit top t n (rw (← ke) (clear-none F free k f cl h))
 
 -- the scan goes one block on
 pub passed : (F : ℕ) (b : List ℕ) → lawful F b ≡ true → (k f z : ℕ) → z ≡ 2 ^ k → Clear F (freeIn b) k f × (startOf k f ≡ f) → f < F → (getD b f 0 ≡ 16384 + k → ⊥)
@@ -298,26 +342,26 @@ module _ (F : ℕ) (free : ℕ → Bool) where
   cut-is i x none e = none-some x none refl e
   cut-is i x (some s) e = let q : block i s ≡ x = cc in (sym (ap (λ (y : Block). y .order) q), ap (λ (y : Block). some (y .start .0)) q)
 
-  from-is : (i : ℕ) (x : Block) (o : Option ℕ) → takeFrom F free i o ≡ some x → (x .order ≡ i) × ((j : ℕ) × (o ≡ some j) × (lowest F free j ≡ some (x .start .0)))
+  pub from-is : (i : ℕ) (x : Block) (o : Option ℕ) → takeFrom F free i o ≡ some x → (x .order ≡ i) × ((j : ℕ) × (o ≡ some j) × (lowest F free j ≡ some (x .start .0)))
   unfolding takeFrom
   from-is i x none e = none-some x none refl e
   from-is i x (some j) e = let q = cut-is i x (lowest F free j) e in (q .0, (j, refl, q .1))
 
   -- the free block that is cut: it has the smallest order that serves, and is the lowest of it
-  pub cut-from : (left : ℕ) (x : Block) → takeBlock F free left ≡ some x → (j : ℕ) × (serving F free (x .order) ≡ some j) × (lowest F free j ≡ some (x .start .0))
-  unfolding takeBlock takeOrder
+  pub cut-from : (left : ℕ) (x : Block) → takeBlock F free none left ≡ some x → (j : ℕ) × (serving F free (x .order) ≡ some j) × (lowest F free j ≡ some (x .start .0))
+  unfolding takeBlock takeOrder oldChoice
   cut-from left x e = go (orderFor F free left) e
     where
-      go : (o : Option ℕ) → takeOrder F free o ≡ some x → (j : ℕ) × (serving F free (x .order) ≡ some j) × (lowest F free j ≡ some (x .start .0))
+      go : (o : Option ℕ) → _≡_ {A = Option Block} (elim o [ none ↦ none | some i ↦ oldChoice F free i ]) (some x) → (j : ℕ) × (serving F free (x .order) ≡ some j) × (lowest F free j ≡ some (x .start .0))
       go none eo = none-some x none refl eo
       go (some i) eo = let p = from-is i x (serving F free i) eo in (p .1 .0, ap (serving F free) (p .0) ∙ p .1 .1, p .1 .2)
 
   -- a block below the order that fits: no larger order has one, and it is the first of its order
-  lower : (left w : ℕ) (x : Block) → Within left w → takeBlock F free left ≡ some x → x .order < w → NoneAbove F free (x .order) × (lowest F free (x .order) ≡ some (x .start .0))
-  unfolding takeBlock orderFor takeOrder NoneAbove
+  lower : (left w : ℕ) (x : Block) → Within left w → takeBlock F free none left ≡ some x → x .order < w → NoneAbove F free (x .order) × (lowest F free (x .order) ≡ some (x .start .0))
+  unfolding takeBlock orderFor takeOrder oldChoice NoneAbove
   lower left w x wi e lt = go (largest 10 (isServed F free left)) e (largest-is 10 (isServed F free left))
     where
-      go : (o : Option ℕ) → takeOrder F free o ≡ some x → Largest 10 (isServed F free left) o
+      go : (o : Option ℕ) → _≡_ {A = Option Block} (elim o [ none ↦ none | some i ↦ oldChoice F free i ]) (some x) → Largest 10 (isServed F free left) o
           → ((k : ℕ) → x .order < k → k ≤ 10 → lowest F free k ≡ none) × (lowest F free (x .order) ≡ some (x .start .0))
       go o eo (nothing n) = none-some x none refl eo
       go o eo (greatest i hi y more) =
@@ -339,7 +383,7 @@ module _ (F : ℕ) (free : ℕ → Bool) where
           (none-up, rw ji at (p .1 .2))
 
   -- what is known stays known when frames are taken
-  stays : (i s : ℕ) (x : Bound) → Searched F free x → Searched F (without free i s) x
+  pub stays : (i s : ℕ) (x : Bound) → Searched F free x → Searched F (without free i s) x
   stays i s x known = record {
     small = known .small;
     above = λ k lo hi. not-there (lowest F (without free i s) k) (λ t et.
@@ -369,28 +413,29 @@ module _ (F : ℕ) (free : ℕ → Bool) where
           let here : BlockAt F free (x .limit) t = rw (st, same) at (q .3) in
           true-false (freeBlock F free (x .limit) t) (at-free-block F free (x .limit) t here) (known .before .none-at t ht))
 
-  pub known-after : (left : ℕ) (x y : Bound) (b : Block) → 1 ≤ left → b .order ≤ 10 → Searched F free x → takeBlock F free left ≡ some b
-      → y ≡ boundAfter x b left → Searched F (without free (b .order) (b .start .0)) y
-  unfolding boundAfter NoneAbove
-  known-after left x y b pos hb known e ye =
-      let q = order-some left pos in
-      let w : ℕ = q .0 in
-      by-test (ltb (b .order) w)
-      (λ t.
-      let yb : y ≡ record { limit = b .order; from = b .start } = rw (q .1, boundAfter, t) at ye in
-      let l = lower left w b (within left w (q .1)) e (ltb-true _ _ t) in
-      rw yb (stays (b .order) (b .start .0) (record { limit = b .order; from = b .start })
-      (record { small = hb; above = l .0; before = found-clear F free (b .order) (b .start .0) (l .1) })))
-      (λ t.
-      let yx : y ≡ x = rw (q .1, boundAfter, t) at ye in
-      rw yx (stays (b .order) (b .start .0) x known))
-
 -- the bound by cases, as the code decides it
 
-pub bound-same : (x : Bound) (b : Block) (left w : ℕ) → orderWithin left ≡ some w → w ≤ b .order → x ≡ boundAfter x b left
+pub bound-same : (x : Bound) (b : Block) (left : ℕ) → (b .order < 10 → left < 2 ^ (b .order + 1)) → x ≡ boundAfter x b left
 unfolding boundAfter
-bound-same x b left w e h = rw (e, boundAfter, le-ltb _ _ h)
+bound-same x b left h =
+    by-dec (decLt (b .order) 10)
+    (λ lt. rw (and-false (ltb (b .order) 10) _ (lt-leb _ _ (h lt)), boundAfter))
+    (λ ge. rw (le-ltb (b .order) 10 (omega arith), boundAfter))
 
-pub bound-down : (x : Bound) (b : Block) (left w : ℕ) → orderWithin left ≡ some w → b .order < w → record { limit = b .order; from = b .start } ≡ boundAfter x b left
+pub bound-down : (x : Bound) (b : Block) (left : ℕ) → b .order < 10 → 2 ^ (b .order + 1) ≤ left → record { limit = b .order; from = b .start } ≡ boundAfter x b left
 unfolding boundAfter
-bound-down x b left w e h = rw (e, boundAfter, lt-ltb _ _ h)
+bound-down x b left h fits = rw (lt-ltb _ _ h, le-leb _ _ fits, boundAfter)
+
+-- what the search that found the old choice has shown
+pub known-then : (F : ℕ) (free : ℕ → Bool) (left w : ℕ) (x : Bound) (b : Block) → orderWithin left ≡ some w → Searched F free x → takeBlock F free none left ≡ some b
+    → Searched F free (boundAfter x b left)
+unfolding NoneAbove
+known-then F free left w x b we known e =
+    let wi = within left w we in
+    by-dec (decLt (b .order) w)
+    (λ low.
+    let l = lower F free left w b wi e low in
+    let m : 2 ^ (b .order + 1) ≤ 2 ^ w = pow-mono (omega arith) in
+    rw (← bound-down x b left (omega (arith, wi .small)) (omega (arith, wi .fits)))
+    (record { small = omega (arith, wi .small); above = l .0; before = found-clear F free (b .order) (b .start .0) (l .1) }))
+    (λ high. rw (← bound-same x b left (λ lt. leb-false _ _ (wi .no-more (b .order + 1) (omega arith) (omega arith)))) known)

@@ -17,7 +17,7 @@ use Rattle.blocks.specs.declared.Reply.the-variants.{Done, WrongLength, 
 use Rattle.blocks.specs.declared.PoolCall.{PoolCall}
 use Rattle.blocks.specs.declared.PoolCall.the-variants.{SetUp, Check, Count, Allocate, Free}
 use Rattle.blocks.specs.FrameWords.{frameBufferWords, largestOwner, isPoolSize, ownersOf, freeIn, lawful, frameWords}
-use Rattle.blocks.specs.Choice.{framesFor, blockCount}
+use Rattle.blocks.specs.Choice.{framesFor, blockCount, wishOf}
 use Rattle.blocks.specs.Owners.{give, freed, holds}
 
 -- the number, first and second value of each answer
@@ -88,15 +88,17 @@ row P (SetUp F) = record { refusals = wrongLength (P .frames) ∷ wrongPoolSize 
 row P (Check F) = record { refusals = judged F (P .frames) []; first = 0; second = 0; new = P }
 -- the free frames, counted singly
 row P (Count F) = record { refusals = judged F (P .frames) []; first = count F (freeIn (P .frames)); second = 0; new = P }
--- a frame for each place of the list, for the owners o, o + 1, .., in page order; the value is the number of blocks
-row P (Allocate F o) =
+-- a frame for each place of the list, for the owners o, o + 1, .., in page order; the value is the number of blocks. "Taking a block gains a wished frame" (02, Change 6): the first block's is w, where that is a frame
+-- of the pool; any number from F on says that there is none
+row P (Allocate F o w) =
     let b = P .frames in
     let n = length (P .out) in
+    let fs = framesFor F (freeIn b) (wishOf F w) n in
     record {
       refusals = judged F b (wrongSpan o n ∷ alreadyHeld F b o n ∷ tooFewFrames F b n ∷ []);
-      first = blockCount F (freeIn b) n;
+      first = blockCount F (freeIn b) (wishOf F w) n;
       second = 0;
-      new = lent (frameWords F (give (ownersOf b) o (framesFor F (freeIn b) n))) (framesFor F (freeIn b) n);
+      new = lent (frameWords F (give (ownersOf b) o fs)) fs;
     }
 -- the value is the number of frames that became free
 row P (Free F o n) =

@@ -1,14 +1,14 @@
--- Which blocks a request takes. Document 01, Frames, second paragraph. "The search over orders stops at the first order that serves": `largest` and `firstFrom` stop at the first that passes.
-use mathlib.Core.Bool.{Bool, _&&_, not}
+-- Which blocks a request takes. Document 01, Frames, second paragraph, and document 02, Change 6. "The search over orders stops at the first order that serves": `largest` and `firstFrom` stop at the first that passes.
+use mathlib.Core.Bool.{Bool, true, false, _&&_, not}
 use mathlib.Core.List.{List, [], _∷_, _++_}
 use mathlib.Core.Option.{Option, none, some}
-use Prim.Native.Nat.{ℕ, zero, suc, _-_, _^_}
-use lib.Dec.{leb}
+use Prim.Native.Nat.{ℕ, zero, suc, _+_, _-_, _^_}
+use lib.Dec.{leb, ltb}
 use lib.ListN.{length}
 use Rattle.words.specs.Tables.{tabFrom}
 use Rattle.words.specs.Searches.{firstFrom, largest, is-some}
 use Rattle.blocks.specs.declared.Block.{Block}
-use Rattle.blocks.specs.Blocks.{largestOrder, orders, block, inBlock, freeBlock}
+use Rattle.blocks.specs.Blocks.{largestOrder, orders, block, inBlock, whollyFree, freeBlock}
 
 -- the lowest start of a free block of order k
 unfoldable pub lowest : ℕ → (ℕ → Bool) → ℕ → Option ℕ
@@ -26,7 +26,7 @@ isServed F free left i = leb (2 ^ i) left && is-some (serving F free i)
 unfoldable pub orderFor : ℕ → (ℕ → Bool) → ℕ → Option ℕ
 orderFor F free left = largest largestOrder (isServed F free left)
 
--- "Take from the smallest such order, lowest start; split, keeping the lower half, until order i": the lower half starts where the block does
+-- "split, keeping the lower half, until order i": the lower half starts where the block does
 unfoldable pub cutAt : ℕ → Option ℕ → Option Block
 cutAt i none = none
 cutAt i (some s) = some (block i s)
@@ -36,14 +36,18 @@ unfoldable pub takeFrom : ℕ → (ℕ → Bool) → ℕ → Option ℕ → Opti
 takeFrom F free i none = none
 takeFrom F free i (some j) = cutAt i (lowest F free j)
 
--- a block of order i, cut from the smallest order that serves
-unfoldable pub takeOrder : ℕ → (ℕ → Bool) → Option ℕ → Option Block
-takeOrder F free none = none
-takeOrder F free (some i) = takeFrom F free i (serving F free i)
+-- "Take from the smallest such order, lowest start; split, keeping the lower half, until order i": the choice of document 01, which Change 6 calls the old one
+unfoldable pub oldChoice : ℕ → (ℕ → Bool) → ℕ → Option Block
+oldChoice F free i = takeFrom F free i (serving F free i)
 
--- the block that is taken while so many pages are left
-unfoldable pub takeBlock : ℕ → (ℕ → Bool) → ℕ → Option Block
-takeBlock F free left = takeOrder F free (orderFor F free left)
+-- "Taking a block gains a wished frame"; there may be none. "If a block of the chosen order starting there lies in the pool and is wholly free, it is taken; otherwise the old choice stands."
+unfoldable pub takeOrder : ℕ → (ℕ → Bool) → Option ℕ → ℕ → Option Block
+takeOrder F free none i = oldChoice F free i
+takeOrder F free (some s) i = elim (whollyFree F free i s) [ true ↦ some (block i s) | false ↦ oldChoice F free i ]
+
+-- the block that is taken while so many pages are left. "Each order is chosen by the old rule from what is then free."
+unfoldable pub takeBlock : ℕ → (ℕ → Bool) → Option ℕ → ℕ → Option Block
+takeBlock F free wish left = elim (orderFor F free left) [ none ↦ none | some i ↦ takeOrder F free wish i ]
 
 -- what is free once the block of order k at s is taken
 unfoldable pub without : (ℕ → Bool) → ℕ → ℕ → ℕ → Bool
@@ -53,13 +57,21 @@ without free k s g = free g && not (inBlock k s g)
 abbrev pub leftAfter : ℕ → Block → ℕ
 leftAfter left b = left - 2 ^ (b .order)
 
--- "Blocks go to ascending pages until none are left." At most `most` blocks: no request takes more blocks than it has pages
-unfoldable pub takeBlocks : ℕ → ℕ → (ℕ → Bool) → ℕ → List Block
-takeBlocks zero F free left = []
-takeBlocks (suc most) F free left =
-    elim (takeBlock F free left) [
+-- the frame after block b
+abbrev pub endOf : Block → ℕ
+endOf b = b .start .0 + 2 ^ (b .order)
+
+-- "the one after the preceding block": the wish of the next block, wherever b was
+unfoldable pub wishAfter : Block → Option ℕ
+wishAfter b = some (endOf b)
+
+-- "Blocks go to ascending pages until none are left." At most `most` blocks: no request takes more blocks than it has pages. `wish` is that of the first block
+unfoldable pub takeBlocks : ℕ → ℕ → (ℕ → Bool) → Option ℕ → ℕ → List Block
+takeBlocks zero F free wish left = []
+takeBlocks (suc most) F free wish left =
+    elim (takeBlock F free wish left) [
       | none ↦ []
-      | some b ↦ b ∷ takeBlocks most F (without free (b .order) (b .start .0)) (leftAfter left b)
+      | some b ↦ b ∷ takeBlocks most F (without free (b .order) (b .start .0)) (wishAfter b) (leftAfter left b)
     ]
 
 -- the frames of a list of blocks, in page order
@@ -67,12 +79,16 @@ unfoldable pub framesOf : List Block → List ℕ
 framesOf [] = []
 framesOf (b ∷ bs) = tabFrom (2 ^ (b .order)) (b .start .0) (λ f. f) ++ framesOf bs
 
--- to map n pages: the blocks, their frames in page order, and how many blocks they are
-unfoldable pub blocksFor : ℕ → (ℕ → Bool) → ℕ → List Block
-blocksFor F free n = takeBlocks n F free n
+-- to map n pages with this wish for the first block: the blocks, their frames in page order, and how many blocks they are
+unfoldable pub blocksFor : ℕ → (ℕ → Bool) → Option ℕ → ℕ → List Block
+blocksFor F free wish n = takeBlocks n F free wish n
 
-unfoldable pub framesFor : ℕ → (ℕ → Bool) → ℕ → List ℕ
-framesFor F free n = framesOf (blocksFor F free n)
+unfoldable pub framesFor : ℕ → (ℕ → Bool) → Option ℕ → ℕ → List ℕ
+framesFor F free wish n = framesOf (blocksFor F free wish n)
 
-unfoldable pub blockCount : ℕ → (ℕ → Bool) → ℕ → ℕ
-blockCount F free n = length (blocksFor F free n)
+unfoldable pub blockCount : ℕ → (ℕ → Bool) → Option ℕ → ℕ → ℕ
+blockCount F free wish n = length (blocksFor F free wish n)
+
+-- the wish that a number says, where the pool is told one: a number that names no frame of the pool is no wish
+unfoldable pub wishOf : ℕ → ℕ → Option ℕ
+wishOf F w = elim (ltb w F) [ true ↦ some w | false ↦ none ]

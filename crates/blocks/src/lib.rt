@@ -21,8 +21,8 @@ pub const NO_FRAME: u32 = 65535;
 // The orders of blocks are 0 to 10.
 pub const ORDERS: u32 = 11;
 
-// The words of the marks: for each order the frame from which on its free blocks are left, and then for each the half that is left (specs/Inner/Taking).
-pub const MARK_WORDS: usize = 22;
+// The words of the marks of a preview: whether the rest is ahead, and a bit for each frame (specs/Inner/Marks).
+pub const MARK_WORDS: usize = 129;
 
 // A frame number. A virtual page number never stands in its place.
 pub struct Frame(pub u32);
@@ -33,16 +33,17 @@ pub struct Block {
     pub order: u32,
 }
 
-// A block, and the order of the free block that it begins.
-pub struct Cut {
-    pub block: Block,
-    pub top: u32,
-}
-
 // What earlier searches have shown: no free block has an order above `limit`, and none of that order starts below `from`.
 pub struct Bound {
     pub limit: u32,
     pub from: Frame,
+}
+
+// A block, the order of the free block in which it lies, and what is known for the next search; the search itself leaves that as it was.
+pub struct Cut {
+    pub block: Block,
+    pub top: u32,
+    pub known: Bound,
 }
 
 // The block chosen, and what is known for the next search.
@@ -57,12 +58,12 @@ pub struct Judged {
     pub held: u32,
 }
 
-// The calls on the pool, with their arguments; allocate takes as many frames as the list that it is lent has places.
+// The calls on the pool, with their arguments; allocate takes as many frames as the list that it is lent has places, the first block at the wished frame where the rule says so.
 pub enum PoolCall {
     SetUp(u32),
     Check(u32),
     Count(u32),
-    Allocate { pool: u32, owner: u32 },
+    Allocate { pool: u32, owner: u32, wish: u32 },
     Free { pool: u32, owner: u32, count: u32 },
 }
 

@@ -8,6 +8,7 @@ ghost use Rattle.blocks.specs.declared.PoolCall.the-variants.{SetUp, Check, Cou
 ghost use Rattle.blocks.specs.FrameWords.{isPoolSize};
 ghost use Rattle.blocks.specs.Calls.{outcome, lent, inOwners, Called};
 use blocks::BUFFER_WORDS;
+use blocks::Frame;
 use blocks::LARGEST_POOL;
 use blocks::Reply;
 use framewords::owners::all_held;
@@ -137,10 +138,10 @@ pub fn count(frames: &[u32], pool: u32) -> Reply
     Reply::Done(count_free(frames, pool))
 }
 
-// Takes out.len() frames for the owners from `owner` on, by the map rule: their numbers into `out`, in page order.
+// Takes out.len() frames for the owners from `owner` on, by the map rule with this wish: their numbers into `out`, in page order. A wish that names no frame of the pool is none.
 // The value is the number of blocks. Refused: 1, 2, 4, 8, 11, 14.
-pub fn allocate(frames: &mut [u32], pool: u32, owner: u32, out: &mut [u32]) -> Reply
-    ensures { λ r. ⌜ Called (Allocate pool owner) (lent (now (frames .entry)) (now (out .entry))) (outcome r) (lent (now (frames .exit)) (now (out .exit))) ⌝ }
+pub fn allocate(frames: &mut [u32], pool: u32, owner: u32, wish: u32, out: &mut [u32]) -> Reply
+    ensures { λ r. ⌜ Called (Allocate pool owner wish) (lent (now (frames .entry)) (now (out .entry))) (outcome r) (lent (now (frames .exit)) (now (out .exit))) ⌝ }
 {
     let judged = check(frames, pool);
     let o = outcome(judged);
@@ -160,7 +161,7 @@ pub fn allocate(frames: &mut [u32], pool: u32, owner: u32, out: &mut [u32]) -> R
     if free < n as u32 {
         return Reply::TooFewFrames;
     }
-    Reply::Done(take_frames(frames, pool, owner, out))
+    Reply::Done(take_frames(frames, pool, owner, Frame(wish), out))
 }
 
 // Frees every frame of the n owners from `owner` on. The value is the number of frames that became free. Refused: 1, 2, 4, 8, 12.

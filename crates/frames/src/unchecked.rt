@@ -4,6 +4,7 @@ pub use framewords::owners::count_free;
 pub use merging::fresh;
 pub use merging::judge;
 pub use merging::release;
+pub use splitting::end_of;
 pub use splitting::mark_block;
 pub use splitting::nothing_known;
 pub use splitting::take_block;

@@ -18,7 +18,7 @@ use Rattle.control.specs.Control.{poolSize}
 use Rattle.layout.specs.declared.TableCall.the-variants.{Map, Preview}
 use Rattle.layout.specs.Tables.{Tables, spacePages, spaceRanges}
 use Rattle.layout.specs.Plain.{plainOf}
-use Rattle.layout.specs.Changes.{takenFrames, takenBlockCount, mapWords, mapPlain}
+use Rattle.layout.specs.Changes.{wishBefore, takenFrames, takenBlockCount, mapWords, mapPlain}
 use Rattle.layout.specs.Calls.{rangeCountIn, sizedRow, row, Called}
 use Rattle.layout.specs.Statements.{CountIsOfRanges, MapThenCount, PreviewIsMap}
 use Rattle.layout.proofs.SoundLaws.{lengths-at, pages-long, ranges-long, sound-parts}
@@ -85,8 +85,8 @@ module _ (s first n rights : ℕ) (T : Tables) where
     preview-refused k = call-refused (Preview s first n rights) T o x judged xe k
 
     -- m blocks and k ranges were found
-    pub preview-done : x .number ≡ 0 → (m k : ℕ) → m ≡ blockCount (poolSize (T .control)) (freeIn (T .frames)) n
-        → k ≡ rangeCount (rangeWords (mapWords (spacePages (T .pages) s) first n rights (framesFor (poolSize (T .control)) (freeIn (T .frames)) n)))
+    pub preview-done : x .number ≡ 0 → (m k : ℕ) → m ≡ blockCount (poolSize (T .control)) (freeIn (T .frames)) (wishBefore (spacePages (T .pages) s) first) n
+        → k ≡ rangeCount (rangeWords (mapWords (spacePages (T .pages) s) first n rights (framesFor (poolSize (T .control)) (freeIn (T .frames)) (wishBefore (spacePages (T .pages) s) first) n)))
         → Called (Preview s first n rights) T (values m k) T
     unfolding row after sizedRow rangeCountIn takenBlockCount takenFrames plainOf freeIn mapPlain
     preview-done z m k me ke =

@@ -12,7 +12,8 @@ ghost use Rattle.runs.specs.Walk.{rangeWords};
 ghost use Rattle.layout.specs.declared.TableCall.the-variants.{Preview};
 ghost use Rattle.layout.specs.Answers.{outcome};
 ghost use Rattle.layout.specs.Tables.{tables};
-ghost use Rattle.layout.specs.Changes.{mapWords};
+ghost use Rattle.layout.specs.Changes.{wishBefore, mapWords};
+ghost use Rattle.steps.specs.Inner.{wishNumber, HeldBefore};
 ghost use Rattle.layout.specs.Calls.{Called};
 use layout::Answer;
 use refusals::judge_map;
@@ -37,11 +38,12 @@ fn copied(part: &[u32]) -> [u32; PAGE_WORDS]
 fn try_map(frames: &[u32], part: &[u32], pool: u32, first: Page, n: u32, rights: u32) -> Cost
     requires { ⌜ lawful pool (now frames) ≡ true ⌝ }
     requires { ⌜ length (now part) ≡ pagesInSpace ⌝ }
+    requires { ⌜ HeldBefore pool (now frames) (wishNumber (wishBefore (now part) (first .0))) ⌝ }
     requires { ⌜ n ≤ count pool (freeIn (now frames)) ⌝ }
     requires { ⌜ first .0 + n ≤ pagesInSpace ⌝ }
     requires { ⌜ allowedRights rights ≡ true ⌝ }
-    ensures { λ r. ⌜ r .blocks ≡ blockCount pool (freeIn (now (frames .entry))) n ⌝ }
-    ensures { λ r. ⌜ r .ranges ≡ rangeCount (rangeWords (mapWords (now (part .entry)) (first .0) n rights (framesFor pool (freeIn (now (frames .entry))) n))) ⌝ }
+    ensures { λ r. ⌜ r .blocks ≡ blockCount pool (freeIn (now (frames .entry))) (wishBefore (now (part .entry)) (first .0)) n ⌝ }
+    ensures { λ r. ⌜ r .ranges ≡ rangeCount (rangeWords (mapWords (now (part .entry)) (first .0) n rights (framesFor pool (freeIn (now (frames .entry))) (wishBefore (now (part .entry)) (first .0)) n))) ⌝ }
 {
     let mut mapped = copied(part);
     preview_space(frames, &mut mapped, pool, first, n, rights)

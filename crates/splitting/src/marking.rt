@@ -1,72 +1,80 @@
 // Choosing blocks and taking none: marks say which are chosen already, and the frame words stay as they are.
 ghost use mathlib.Core.Path.{_≡_};
 ghost use mathlib.Core.Bool.{true};
-ghost use Prim.Native.Nat.{_+_, _^_, _≤_};
+ghost use Prim.Native.Nat.{_<_, _≤_};
 ghost use lib.ListN.{length};
-ghost use Rattle.blocks.specs.Blocks.{largestOrder};
 ghost use Rattle.blocks.specs.FrameWords.{largestPool, lawful};
-ghost use Rattle.blocks.specs.Inner.Taking.{markWords, Previewed, BlockMarked};
-ghost use Rattle.blocks.specs.Inner.Passes.{HalvesMarked, Marked};
-use crate::choosing::bound_after;
+ghost use Rattle.blocks.specs.Inner.Marks.{markWords, GoneMarked, CutMarked, Previewed, BlockMarked};
 use crate::choosing::choose;
-use crate::choosing::greatest;
+use crate::choosing::is_gone;
 use crate::choosing::mark_at;
+use crate::choosing::order_within;
+use blocks::Block;
 use blocks::Bound;
 use blocks::Chosen;
 use blocks::Cut;
 use blocks::Frame;
-use blocks::ORDERS;
-use framewords::buffer::size_of;
 
-// Marks the upper halves that are left of the block of order `top` at s when its part of order `order` is chosen.
-fn mark_halves(marks: &mut [u32], s: Frame, order: u32, top: u32)
+// Marks that the free block which starts at s in the words lent is left no more.
+fn mark_gone(marks: &mut [u32], s: Frame)
     requires { ⌜ length (now marks) ≡ markWords ⌝ }
-    requires { ⌜ order ≤ top ⌝ }
-    requires { ⌜ top ≤ largestOrder ⌝ }
-    requires { ⌜ s .0 + 2 ^ top ≤ largestPool ⌝ }
-    ensures { λ _. ⌜ HalvesMarked (now (marks .entry)) (s .0) order top (now (marks .exit)) ⌝ }
+    requires { ⌜ s .0 < largestPool ⌝ }
+    ensures { λ _. ⌜ GoneMarked (now (marks .entry)) (s .0) (now (marks .exit)) ⌝ }
 {
-    let at = s.0;
-    let mut k = order;
-    while k < top {
-        let size = size_of(k);
-        marks[(ORDERS + k) as usize] = at + size + 1;
-        k += 1;
+    let gone = is_gone(marks, s);
+    if !gone {
+        let at = s.0;
+        let word = (1 + at / 32) as usize;
+        marks[word] = marks[word] + (1u32 << (at % 32));
     }
 }
 
-// Marks that the block of the cut is chosen: the free block that it begins is left no more, and its upper halves are.
+// Marks that the block of the cut is chosen.
 fn mark_cut(marks: &mut [u32], cut: Cut)
     requires { ⌜ length (now marks) ≡ markWords ⌝ }
     requires { ⌜ cut .block .order ≤ cut .top ⌝ }
-    requires { ⌜ cut .top ≤ largestOrder ⌝ }
-    requires { ⌜ cut .block .start .0 + 2 ^ (cut .top) ≤ largestPool ⌝ }
-    ensures { λ _. ⌜ Marked (now (marks .entry)) (cut .block .start .0) (cut .block .order) (cut .top) (now (marks .exit)) ⌝ }
+    requires { ⌜ cut .block .start .0 < largestPool ⌝ }
+    ensures { λ _. ⌜ CutMarked (now (marks .entry)) (cut .block .start .0) (cut .block .order) (cut .top) (now (marks .exit)) ⌝ }
 {
     let b = cut.block;
-    let start = b.start;
-    let top = cut.top;
-    let size = size_of(top);
-    let from = mark_at(marks, top);
-    // It was the lowest one lent that is left, or else the half; a half is left only where none lent is, so `from` passes over none.
-    marks[top as usize] = greatest(start.0 + size, from);
-    marks[(ORDERS + top) as usize] = 0;
-    mark_halves(marks, start, b.order, top);
+    let order = b.order;
+    if order == cut.top {
+        mark_gone(marks, b.start);
+        return;
+    }
+    // What is left above the block is more than the pages that are left: they all come from there.
+    marks[0] = 1;
 }
 
-// Chooses the block that the map rule gives while `left` pages are left, and marks it; earlier searches have shown `known`.
-pub fn mark_block(frames: &[u32], pool: u32, left: u32, known: Bound, marks: &mut [u32]) -> Chosen
+// Chooses the block that the map rule gives with this wish while `left` pages are left, and marks it; earlier searches have shown `known`.
+pub fn mark_block(
+    frames: &[u32],
+    pool: u32,
+    wish: Frame,
+    left: u32,
+    known: Bound,
+    marks: &mut [u32],
+) -> Chosen
     requires { ⌜ lawful pool (now frames) ≡ true ⌝ }
     requires { ⌜ 1 ≤ left ⌝ }
     requires { ⌜ length (now marks) ≡ markWords ⌝ }
-    requires { ⌜ Previewed pool (now frames) (now marks) left known ⌝ }
-    ensures { λ r. ⌜ BlockMarked pool (now (frames .entry)) (now (marks .entry)) left known r (now (marks .exit)) ⌝ }
+    requires { ⌜ Previewed pool (now frames) (now marks) (wish .0) left known ⌝ }
+    ensures { λ r. ⌜ BlockMarked pool (now (frames .entry)) (now (marks .entry)) (wish .0) left known r (now (marks .exit)) ⌝ }
 {
-    let cut = choose(frames, pool, left, known, marks);
-    let b = cut.block;
+    let ahead = mark_at(marks, 0);
+    if ahead != 0 {
+        let order = order_within(left);
+        return Chosen {
+            block: Block { start: wish, order },
+            known,
+        };
+    }
+    let cut = choose(frames, pool, wish, left, known, marks);
     mark_cut(marks, cut);
+    let b = cut.block;
+    let then = cut.known;
     Chosen {
         block: b,
-        known: bound_after(known, b, left),
+        known: then,
     }
 }

@@ -11,7 +11,7 @@ use Rattle.blocks.specs.FrameWords.{ownersOf, freeIn, frameWords}
 use Rattle.blocks.specs.Choice.{framesFor, blockCount}
 use Rattle.blocks.specs.Owners.{give}
 use Rattle.layout.specs.Tables.{spacePages, ownerAt}
-use Rattle.layout.specs.Changes.{Rewritten, mapWords, unmapWords, mappedIn, protectWords, differing}
+use Rattle.layout.specs.Changes.{Rewritten, wishBefore, mapWords, unmapWords, mappedIn, protectWords, differing}
 use Rattle.layout.proofs.SoundLaws.{space-room}
 use Rattle.layout.proofs.SpaceLaws.{part-length, lent-part}
 use Rattle.layout.proofs.PlainLaws.{rangeWords-long}
@@ -38,8 +38,8 @@ module _ (ps rs : List ℕ) (lp : length ps ≡ 4096) (lr : length rs ≡ 2048) 
       record { pages = rw we at p; ranges = rw ese at r }
 
   pub mapped-pages : (F : ℕ) (fs fs′ : List ℕ) (first n rights m : ℕ) → MapStep F fs (take ((1024 * s + 1024) - 1024 * s) (drop (1024 * s) ps)) (1 + 1024 * s + first) first n rights m fs′ ws es
-      → (m ≡ blockCount F (freeIn fs) n) × ((fs′ ≡ frameWords F (give (ownersOf fs) (ownerAt s first) (framesFor F (freeIn fs) n)))
-      × Rewritten s (mapWords (spacePages ps s) first n rights (framesFor F (freeIn fs) n)) ps rs ps′ rs′)
+      → (m ≡ blockCount F (freeIn fs) (wishBefore (spacePages ps s) first) n) × ((fs′ ≡ frameWords F (give (ownersOf fs) (ownerAt s first) (framesFor F (freeIn fs) (wishBefore (spacePages ps s) first) n)))
+      × Rewritten s (mapWords (spacePages ps s) first n rights (framesFor F (freeIn fs) (wishBefore (spacePages ps s) first) n)) ps rs ps′ rs′)
   unfolding mapWords ownerAt
   mapped-pages F fs fs′ first n rights m w =
       let w2 : MapStep F fs (spacePages ps s) (1 + 1024 * s + first) first n rights m fs′ ws es = rw lent-is-space at w in

@@ -14,7 +14,7 @@ ghost use Rattle.blocks.specs.FrameWords.{lawful, ownersOf, freeIn, frameWords}
 ghost use Rattle.blocks.specs.Choice.{framesFor, blockCount};
 ghost use Rattle.blocks.specs.Owners.{give};
 ghost use Rattle.layout.specs.Tables.{pageBufferWords, rangeBufferWords, spacePages, ownerAt};
-ghost use Rattle.layout.specs.Changes.{Rewritten, mapWords, unmapWords, mappedIn, protectWords, differing};
+ghost use Rattle.layout.specs.Changes.{Rewritten, wishBefore, mapWords, unmapWords, mappedIn, protectWords, differing};
 use crate::mapping::map_space;
 pub use crate::previewing::Cost;
 pub use crate::previewing::preview_space;
@@ -43,9 +43,9 @@ pub fn map_pages(
     requires { ⌜ space ≤ lastSpace ⌝ }
     requires { ⌜ first .0 + n ≤ pagesInSpace ⌝ }
     requires { ⌜ allowedRights rights ≡ true ⌝ }
-    ensures { λ r. ⌜ r ≡ blockCount pool (freeIn (now (frames .entry))) n ⌝ }
-    ensures { λ _. ⌜ now (frames .exit) ≡ frameWords pool (give (ownersOf (now (frames .entry))) (ownerAt space (first .0)) (framesFor pool (freeIn (now (frames .entry))) n)) ⌝ }
-    ensures { λ _. ⌜ Rewritten space (mapWords (spacePages (now (pages .entry)) space) (first .0) n rights (framesFor pool (freeIn (now (frames .entry))) n)) (now (pages .entry)) (now (ranges .entry)) (now (pages .exit)) (now (ranges .exit)) ⌝ }
+    ensures { λ r. ⌜ r ≡ blockCount pool (freeIn (now (frames .entry))) (wishBefore (spacePages (now (pages .entry)) space) (first .0)) n ⌝ }
+    ensures { λ _. ⌜ now (frames .exit) ≡ frameWords pool (give (ownersOf (now (frames .entry))) (ownerAt space (first .0)) (framesFor pool (freeIn (now (frames .entry))) (wishBefore (spacePages (now (pages .entry)) space) (first .0)) n)) ⌝ }
+    ensures { λ _. ⌜ Rewritten space (mapWords (spacePages (now (pages .entry)) space) (first .0) n rights (framesFor pool (freeIn (now (frames .entry))) (wishBefore (spacePages (now (pages .entry)) space) (first .0)) n)) (now (pages .entry)) (now (ranges .entry)) (now (pages .exit)) (now (ranges .exit)) ⌝ }
 {
     let a = (PAGES * space) as usize;
     let e = a + PAGE_WORDS;

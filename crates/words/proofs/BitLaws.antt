@@ -1,20 +1,22 @@
 -- The bits of a number, at any place: a number made of its bits, and the bits of a number so made.
 use mathlib.Core.Path.{_≡_, refl, ap, _∙_, sym, subst}
-use mathlib.Core.Bool.{Bool, true, false}
+use mathlib.Core.Bool.{Bool, true, false, _||_}
 use mathlib.Core.List.{List, [], _∷_}
-use Prim.Native.Nat.{ℕ, zero, suc, _+_, _*_, _/_, _%_, _^_, _<_}
-use native.Mathlib.Nat.{add-zero, add-comm, mul-comm, mul-assoc, mod-one, pow-succ', div-div-eq-div-mul, div-eq-of-lt, div-lt-iff-lt-mul, lt-of-lt-of-le}
+use Prim.Native.Nat.{ℕ, zero, suc, _+_, _-_, _*_, _/_, _%_, _^_, _<_}
+use native.Mathlib.Nat.{add-zero, add-comm, mul-comm, mul-assoc, mod-one, pow-succ', div-div-eq-div-mul, div-eq-of-lt, div-lt-iff-lt-mul, lt-of-lt-of-le, zero-div, add-div-right, add-mul-div-right}
+use native.Mathlib.Decide.{decLt, ℕ-discrete}
 use native.Mathlib.Omega.{arith}
 use lib.Dec.{eqb}
 use lib.ListN.{length, getD}
-use lib.Pow.{pow-pos, pow-mono, shr-shr, high, mod-pow-add}
+use lib.Pow.{pow-pos, pow-mono, pow-add, shr-shr, high, mod-pow-add}
 use borrow.Author.Tests.{eq-eqb, ne-eqb, eqb-true, eqb-false}
 use Rattle.words.specs.Bits.{hasBit}
 use Rattle.words.specs.Counts.{one-if}
 use Rattle.words.specs.Searches.{anyFrom}
 use Rattle.words.specs.Tables.{tabFrom}
-use Rattle.words.proofs.Cases.{by-test, true-false}
+use Rattle.words.proofs.Cases.{by-test, by-dec, true-false, or-none}
 use Rattle.words.proofs.CountLaws.{one-if-le}
+use Rattle.words.proofs.PowerLaws.{double}
 use Rattle.words.proofs.SearchLaws.{any-none}
 
 -- a bit as a number
@@ -97,3 +99,54 @@ below (suc n) i m h f =
     by-test (hasBit m i)
     (λ t. true-false _ (rw (t, anyFrom) refl) f)
     (λ c. clear-top i m (below n (suc i) m (subst (λ (k : ℕ). m < 2 ^ k) (omega arith) h) (rw (c, anyFrom) at f)) c)
+
+-- 0 has no bit
+pub no-bit : (i : ℕ) → hasBit 0 i ≡ false
+unfolding hasBit
+no-bit i = ne-eqb (0 / 2 ^ i % 2) 1 (let z = zero-div (2 ^ i) in omega arith)
+
+-- a bit that was clear, added
+module _ (n i : ℕ) (clear : hasBit n i ≡ false) where
+  even : n / 2 ^ i % 2 ≡ 0
+  unfolding hasBit
+  even = let e : (n / 2 ^ i % 2 ≡ 1 → ⊥) = eqb-false _ _ clear in omega arith
+
+  from-it : (n + 2 ^ i) / 2 ^ i ≡ n / 2 ^ i + 1
+  from-it = add-div-right n (pow-pos i)
+
+  -- the bits above it see no change
+  from-next : (k : ℕ) → i < k → (n + 2 ^ i) / 2 ^ k ≡ n / 2 ^ k
+  from-next k h =
+      let up : i + 1 + (k - (i + 1)) ≡ k = omega arith in
+      let at : (m : ℕ) → m / 2 ^ k ≡ m / 2 ^ i / 2 / 2 ^ (k - (i + 1)) = λ m. ap (λ (x : ℕ). m / 2 ^ x) (sym up) ∙ sym (shr-shr m (i + 1) (k - (i + 1))) ∙ ap (λ (x : ℕ). x / 2 ^ (k - (i + 1))) (sym (shr-shr m i 1)) in
+      let half : (n + 2 ^ i) / 2 ^ i / 2 ≡ n / 2 ^ i / 2 = omega (arith, even, from-it) in
+      at (n + 2 ^ i) ∙ ap (λ (x : ℕ). x / 2 ^ (k - (i + 1))) half ∙ sym (at n)
+
+  -- and from a bit below it, an even number is added
+  from-lower : (k : ℕ) → k < i → (n + 2 ^ i) / 2 ^ k % 2 ≡ n / 2 ^ k % 2
+  from-lower k h =
+      let up : i - k - 1 + 1 + k ≡ i = omega arith in
+      let size : 2 ^ i ≡ 2 ^ (i - k - 1 + 1) * 2 ^ k = ap (λ (x : ℕ). 2 ^ x) (sym up) ∙ pow-add 2 (i - k - 1 + 1) k in
+      let d = double (i - k - 1) in
+      let q : (n + 2 ^ i) / 2 ^ k ≡ n / 2 ^ k + 2 ^ (i - k - 1 + 1) = ap (λ (x : ℕ). (n + x) / 2 ^ k) size ∙ add-mul-div-right n (2 ^ (i - k - 1 + 1)) (pow-pos k) in
+      omega arith
+
+  pub bit-added : (k : ℕ) → hasBit (n + 2 ^ i) k ≡ (hasBit n k || eqb k i)
+  unfolding hasBit
+  bit-added k =
+      by-dec (ℕ-discrete k i)
+      (λ e. ap (hasBit (n + 2 ^ i)) e ∙ eq-eqb ((n + 2 ^ i) / 2 ^ i % 2) 1 (omega (arith, even, from-it)) ∙ sym (ap (λ (b : Bool). b || eqb k i) (ap (hasBit n) e ∙ clear) ∙ eq-eqb k i e))
+      (λ ne.
+      let same : (n + 2 ^ i) / 2 ^ k % 2 ≡ n / 2 ^ k % 2 = by-dec (decLt k i) (from-lower k) (λ ge. ap (λ (x : ℕ). x % 2) (from-next k (omega arith))) in
+      ap (λ (x : ℕ). eqb x 1) same ∙ sym (or-none (hasBit n k) (eqb k i) (ne-eqb k i ne)))
+
+  -- it fits where its place does
+  pub bit-fits : (w : ℕ) → i < w → n < 2 ^ w → n + 2 ^ i < 2 ^ w
+  bit-fits w h less =
+      let up : w - i - 1 + 1 + i ≡ w = omega arith in
+      let size : 2 ^ w ≡ 2 ^ (w - i - 1 + 1) * 2 ^ i = ap (λ (x : ℕ). 2 ^ x) (sym up) ∙ pow-add 2 (w - i - 1 + 1) i in
+      let d = double (w - i - 1) in
+      let below-it : n / 2 ^ i < 2 ^ (w - i - 1 + 1) = div-lt-iff-lt-mul (pow-pos i) .1 (rw size at less) in
+      let room : n / 2 ^ i + 1 < 2 ^ (w - i - 1 + 1) = omega (arith, even) in
+      let then : (n + 2 ^ i) / 2 ^ i < 2 ^ (w - i - 1 + 1) = omega (arith, from-it) in
+      rw size (div-lt-iff-lt-mul (pow-pos i) .0 then)

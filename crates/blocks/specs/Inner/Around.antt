@@ -1,7 +1,7 @@
 -- The free block around a frame, found from the frame: a faster description, for inner functions, of what Blocks and FrameWords define, as the laws of AroundLaws say.
 use mathlib.Core.Bool.{Bool, true, false, _&&_}
 use mathlib.Core.Option.{Option, none, some}
-use Prim.Native.Nat.{ℕ, _+_, _*_, _/_, _^_}
+use Prim.Native.Nat.{ℕ, suc, _+_, _*_, _/_, _^_}
 use lib.Dec.{leb, eqb}
 use Rattle.words.specs.Searches.{allFrom, largest}
 use Rattle.blocks.specs.Blocks.{largestOrder}
@@ -23,3 +23,7 @@ freeOrder F free f = largest largestOrder (around F free f)
 unfoldable pub orderWord : ℕ → Option ℕ → ℕ
 orderWord f none = otherFree
 orderWord f (some k) = elim (eqb (startOf k f) f) [ true ↦ firstOf k | false ↦ otherFree ]
+
+-- the start of the other half of the block of order k + 1 around s: the block of order k around s is one half of it
+unfoldable pub otherHalf : ℕ → ℕ → ℕ
+otherHalf k s = elim (eqb (startOf (suc k) s) (startOf k s)) [ true ↦ startOf k s + 2 ^ k | false ↦ startOf (suc k) s ]

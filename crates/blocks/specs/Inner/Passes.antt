@@ -1,6 +1,6 @@
 -- What the inner functions of the pool promise, and nothing else does: each a step of a pass over the buffer, said of single words.
 use mathlib.Core.Path.{_≡_}
-use mathlib.Core.Bool.{Bool, true, false, not}
+use mathlib.Core.Bool.{Bool, true, false, _&&_, not}
 use mathlib.Core.List.{List}
 use mathlib.Core.Option.{Option, none, some}
 use Prim.Native.Nat.{ℕ, _+_, _-_, _^_, _<_, _≤_}
@@ -11,13 +11,10 @@ use Rattle.words.specs.Searches.{anyFrom, largest}
 use Rattle.words.specs.Inner.{ChangedTo}
 use Rattle.blocks.specs.declared.Block.{Block}
 use Rattle.blocks.specs.declared.Bound.{Bound}
-use Rattle.blocks.specs.declared.Cut.{Cut}
 use Rattle.blocks.specs.Blocks.{largestOrder, orders, block, inBlock}
 use Rattle.blocks.specs.FrameWords.{ownersOf, freeIn, ownedIn, firstOf, frameWord}
-use Rattle.blocks.specs.Choice.{takeBlock}
 use Rattle.blocks.specs.Owners.{cleared}
-use Rattle.blocks.specs.Inner.Around.{startOf, around}
-use Rattle.blocks.specs.Inner.Taking.{Searched, Stands, fromOf, halfOf}
+use Rattle.blocks.specs.Inner.Around.{startOf, around, otherHalf}
 
 -- Settling and checking, block after block
 
@@ -63,8 +60,9 @@ orderAt limit top t = elim (leb (top + t) limit) [ true ↦ top + t | false ↦ 
 unfoldable pub least : ℕ → ℕ → ℕ
 least a b = elim (ltb a b) [ true ↦ a | false ↦ b ]
 
-unfoldable pub greatest : ℕ → ℕ → ℕ
-greatest a b = elim (ltb a b) [ true ↦ b | false ↦ a ]
+-- r is the largest order up to limit whose size is at most the pages left
+pub record TopOrder (left limit r : ℕ) : Type 0 where
+  pub is-least : (L : ℕ) → orderWithin left ≡ some L → r ≡ least L limit
 
 -- a block, or order 11 for none
 unfoldable pub asBlock : Option Block → Block
@@ -75,40 +73,23 @@ asBlock (some b) = b
 unfoldable pub scanFrom : Bound → ℕ → ℕ
 scanFrom x k = elim (eqb k (x .limit)) [ true ↦ x .from .0 | false ↦ 0 ]
 
--- whatever words the marks stand for: r is the block that the rule takes of them, and begins a free block of the order that r says
-pub record Chooses (F : ℕ) (b m : List ℕ) (left : ℕ) (known : Bound) (r : Cut) : Type 0 where
-  pub block : (w : List ℕ) → Stands F b m w → Searched F (freeIn w) known → r .block ≡ asBlock (takeBlock F (freeIn w) left)
-  pub first : (w : List ℕ) → Stands F b m w → Searched F (freeIn w) known → r .block .order ≤ largestOrder → getD w (r .block .start .0) 0 ≡ firstOf (r .top)
-
--- what is known once block b was taken for so many pages left: a block below the order that fits is the first of the largest order that is left
+-- what is known once block b was found as the old choice with so many pages left: where a block of the next order fits too, b is the first of the largest order that is left
 unfoldable pub boundAfter : Bound → Block → ℕ → Bound
-boundAfter x b left = elim (orderWithin left) [ none ↦ x | some w ↦ elim (ltb (b .order) w) [ true ↦ record { limit = b .order; from = b .start } | false ↦ x ] ]
+boundAfter x b left = elim (ltb (b .order) largestOrder && leb (2 ^ (b .order + 1)) left) [ true ↦ record { limit = b .order; from = b .start } | false ↦ x ]
 
 -- Taking
 
--- the upper halves of orders i up to j, j left out, of the block at s have their first words
+-- of the free block of order j around s, the other halves of orders i up to j, j left out, have their first words
 pub record Halved (b : List ℕ) (s i j : ℕ) (b′ : List ℕ) : Type 0 where
-  pub halves : (m : ℕ) → i ≤ m → m < j → getD b′ (s + 2 ^ m) 0 ≡ firstOf m
-  pub others : (g : ℕ) → ((m : ℕ) → i ≤ m → m < j → g ≡ s + 2 ^ m → ⊥) → getD b′ g 0 ≡ getD b g 0
+  pub halves : (m : ℕ) → i ≤ m → m < j → getD b′ (otherHalf m s) 0 ≡ firstOf m
+  pub others : (g : ℕ) → ((m : ℕ) → i ≤ m → m < j → g ≡ otherHalf m s → ⊥) → getD b′ g 0 ≡ getD b g 0
 
--- the block of order i at s begins a free block that the words say
-pub record Begins (F : ℕ) (b : List ℕ) (s i : ℕ) : Type 0 where
-  pub inside : s < F
-  pub top : ℕ
-  pub below : i ≤ top
-  pub first : getD b s 0 ≡ firstOf top
-
--- the marks of the orders i up to j, j left out, say that these upper halves of the block at s are left
-abbrev pub HalvesMarked : List ℕ → ℕ → ℕ → ℕ → List ℕ → Type 0
-HalvesMarked m s i j m′ = ChangedTo (λ g v. s + 2 ^ (g - orders) + 1) m (orders + i) (orders + j) m′
-
--- the marks when the part of order i is taken of the free block of order j at s: that one is left no more, and its upper halves of the orders i up to j, j left out, are
-pub record Marked (m : List ℕ) (s i j : ℕ) (m′ : List ℕ) : Type 0 where
-  pub gone : fromOf m′ j ≡ greatest (s + 2 ^ j) (fromOf m j)
-  pub split : halfOf m′ j ≡ 0
-  pub halves : (k : ℕ) → i ≤ k → k < j → halfOf m′ k ≡ s + 2 ^ k + 1
-  pub froms : (k : ℕ) → k ≤ largestOrder → (k ≡ j → ⊥) → fromOf m′ k ≡ fromOf m k
-  pub others : (k : ℕ) → k ≤ largestOrder → (k ≡ j → ⊥) → (i ≤ k → k < j → ⊥) → halfOf m′ k ≡ halfOf m k
+-- the block of order i at s is a part of the free block of order j around it, which the words say
+pub record PartOf (F : ℕ) (b : List ℕ) (s i j : ℕ) : Type 0 where
+  pub starts : startOf i s ≡ s
+  pub below : i ≤ j
+  pub inside : startOf j s < F
+  pub first : getD b (startOf j s) 0 ≡ firstOf j
 
 -- the owners when the block of order i at s is given to o, o + 1, ..
 unfoldable pub handed : (ℕ → ℕ) → ℕ → ℕ → ℕ → ℕ → ℕ

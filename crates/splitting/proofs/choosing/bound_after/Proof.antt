@@ -1,17 +1,23 @@
 use borrow.Author.Needs.{needs}
 use Rattle.splitting.proofs.choosing.bound_after.Statement.{statement}
 use Rattle.splitting.proofs.choosing.bound_after.Tie as tie
-use Prim.Native.Nat.{_-_}
+use native.Mathlib.Omega.{arith}
 use Rattle.blocks.proofs.SearchedLaws.{bound-same, bound-down}
 
-order-within-requires : tie.Need-order-within-requires
-order-within-requires c κs = search needs
+add-size-of : tie.Need-add-size-of
+add-size-of c = search needs
+
+size-of-requires : tie.Need-size-of-requires
+size-of-requires c κs = search needs
 
 returns : tie.Need-returns
-returns c = bound-down _ _ _ _ (c .before .before .order-within .ensures) (c .before .if1 .taken)
+returns c = bound-down _ _ _ (c .before .before .before .if1 .taken) (omega (arith, c .before .before .size-of .ensures))
 
 returns-2 : tie.Need-returns-2
-returns-2 c = bound-same _ _ _ _ (c .before .order-within .ensures) (c .if1 .left)
+returns-2 c = bound-same _ _ _ (λ h. omega (arith, c .before .size-of .ensures))
+
+returns-3 : tie.Need-returns-3
+returns-3 c = bound-same _ _ _ (λ h. absurd (omega arith))
 
 pub bound-after-spec : {M : Type 1} → statement M
-bound-after-spec = tie.close (tie.spec order-within-requires returns returns-2)
+bound-after-spec = tie.close (tie.spec add-size-of size-of-requires returns returns-2 returns-3)

@@ -1,6 +1,5 @@
 use Rattle.splitting.proofs.choosing.least.Statement.{statement}
 use Rattle.splitting.proofs.choosing.least.Tie as tie
-use Prim.Native.Nat.{_-_}
 use Rattle.blocks.proofs.SearchedLaws.{least-first, least-second}
 
 returns : tie.Need-returns

@@ -1,7 +1,6 @@
 use borrow.Author.Needs.{needs}
 use Rattle.splitting.proofs.choosing.order_at.Statement.{statement}
 use Rattle.splitting.proofs.choosing.order_at.Tie as tie
-use Prim.Native.Nat.{_-_}
 use Rattle.blocks.proofs.SearchedLaws.{tried-up, tried-down}
 
 add-if1 : tie.Need-add-if1

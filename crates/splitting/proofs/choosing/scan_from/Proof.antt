@@ -1,6 +1,5 @@
 use Rattle.splitting.proofs.choosing.scan_from.Statement.{statement}
 use Rattle.splitting.proofs.choosing.scan_from.Tie as tie
-use Prim.Native.Nat.{_-_}
 use Rattle.blocks.proofs.SearchedLaws.{scan-same, scan-other}
 
 returns : tie.Need-returns

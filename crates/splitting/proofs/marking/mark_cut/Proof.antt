@@ -1,68 +1,29 @@
-use borrow.Author.Needs.{needs}
-use mathlib.Core.Path.{_∙_}
 use native.Mathlib.Omega.{arith}
-use lib.ListN.{length-set}
-use Rattle.blocks.proofs.MarkLaws.{cut-marked}
+use borrow.Author.Needs.{needs}
+use Rattle.blocks.specs.Inner.Marks.{the-whole, more-above}
+use Rattle.blocks.proofs.MarkLaws.{ahead-set}
 use Rattle.splitting.proofs.marking.mark_cut.Statement.{statement}
 use Rattle.splitting.proofs.marking.mark_cut.Tie as tie
 
-size-of-requires : tie.Need-size-of-requires
-size-of-requires c κs = search needs
+mark-gone-requires : tie.Need-mark-gone-requires
+mark-gone-requires c κs = search needs
 
-mark-at-requires : tie.Need-mark-at-requires
-mark-at-requires c κs = search needs
+same-length : tie.Need-same-length
+same-length c = search needs
 
-add-greatest : tie.Need-add-greatest
-add-greatest c = search needs
-
-greatest-requires : tie.Need-greatest-requires
-greatest-requires c κs = search needs
-
-cast-marks : tie.Need-cast-marks
-cast-marks c = search needs
-
-mul-marks : tie.Need-mul-marks
-mul-marks c = search needs
+returns : tie.Need-returns
+returns c = the-whole (c .before .before .before .before .if1 .taken) (c .before .before .mark-gone .ensures)
 
 slice-write-marks : tie.Need-slice-write-marks
 slice-write-marks c = search needs
 
-add-marks : tie.Need-add-marks
-add-marks c = search needs
+same-length-2 : tie.Need-same-length-2
+same-length-2 c = search needs
 
-cast-marks-2 : tie.Need-cast-marks-2
-cast-marks-2 c = search needs
-
-mul-marks-2 : tie.Need-mul-marks-2
-mul-marks-2 c = search needs
-
-slice-write-marks-2 : tie.Need-slice-write-marks-2
-slice-write-marks-2 c = simp length-set (omega arith)
-
-mark-halves-requires : tie.Need-mark-halves-requires
-mark-halves-requires c κs = search needs
-
-same-length : tie.Need-same-length
-same-length c = c .before .before .mark-halves .kept .0 ∙ simp length-set (omega arith)
-
-returns : tie.Need-returns
-returns c = let p = c .before .before .before .before .before .before .before .before .before .before .before .before .pre in cut-marked _ _ _ _ _ _ _ _ (p .0) (p .1 .0) (p .1 .1 .0) (c .before .before .before .before .before .before .before .before .size-of .ensures) (c .before .before .before .before .before .before .mark-at .ensures) (c .before .before .before .before .greatest .ensures) (c .before .before .mark-halves .ensures)
+returns-2 : tie.Need-returns-2
+returns-2 c = more-above (omega arith) (ahead-set (c .before .before .before .before .args .marks .now) (c .before .before .before .before .pre .0))
 
 pub mark-cut-spec : {M : Type 1} → statement M
 mark-cut-spec =
     tie.close
-    (tie.spec
-    size-of-requires
-    mark-at-requires
-    add-greatest
-    greatest-requires
-    cast-marks
-    mul-marks
-    slice-write-marks
-    add-marks
-    cast-marks-2
-    mul-marks-2
-    slice-write-marks-2
-    mark-halves-requires
-    same-length
-    returns)
+    (tie.spec mark-gone-requires same-length returns slice-write-marks same-length-2 returns-2)

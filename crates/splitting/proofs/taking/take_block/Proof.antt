@@ -1,7 +1,7 @@
 use borrow.Author.Needs.{needs}
 use native.Mathlib.Omega.{arith}
-use Rattle.blocks.proofs.AllocateLaws.{chosen-is, chosen-begins, block-taken}
-use Rattle.blocks.proofs.MarkLaws.{nothing-marked}
+use Rattle.blocks.proofs.AllocateLaws.{chosen-is, chosen-part, block-taken}
+use Rattle.blocks.proofs.MarkLaws.{nothing-taken}
 use Rattle.splitting.proofs.taking.take_block.Statement.{statement}
 use Rattle.splitting.proofs.taking.take_block.Tie as tie
 
@@ -13,12 +13,11 @@ choose-requires c κs = let p = c .before .before .before .pre in (p .0, (p .1 .
 
 take-at-requires : tie.Need-take-at-requires
 take-at-requires c κs =
-    let p = c .before .before .before .before .before .before .pre in
-    let is = chosen-is _ _ _ _ (p .1 .0) (p .1 .1 .0) (c .before .before .choose .ensures .block _ (nothing-marked _ _ 1 (p .0)) (p .1 .1 .1 .1 .1)) in
-    (p .0, (chosen-begins _ _ (p .0) _ _ is, (p .1 .1 .1 .0, omega arith)))
-
-bound-after-requires : tie.Need-bound-after-requires
-bound-after-requires c κs = search needs
+    let p = c .before .before .before .before .before .pre in
+    let st = nothing-taken _ _ 1 (p .0) in
+    let ch = c .before .choose .ensures in
+    let is = chosen-is _ _ _ _ _ (p .1 .0) (p .1 .1 .0) (ch .block _ st (p .1 .1 .1 .1 .1)) in
+    (p .0, (chosen-part _ _ (p .0) _ _ _ is _ (ch .first _ st (p .1 .1 .1 .1 .1)), (p .1 .1 .1 .0, omega arith)))
 
 same-length : tie.Need-same-length
 same-length c = search needs
@@ -26,8 +25,10 @@ same-length c = search needs
 returns : tie.Need-returns
 returns c =
     let p = c .before .before .before .before .before .before .before .before .before .before .pre in
-    let is = chosen-is _ _ _ _ (p .1 .0) (p .1 .1 .0) (c .before .before .before .before .before .before .choose .ensures .block _ (nothing-marked _ _ 1 (p .0)) (p .1 .1 .1 .1 .1)) in
-    block-taken _ _ (p .0) _ _ is _ (p .1 .1 .1 .0) (p .1 .1 .1 .1 .0) (p .1 .0) _ _ (p .1 .1 .1 .1 .1) (c .bound-after .ensures) _ (c .before .before .before .take-at .ensures)
+    let st = nothing-taken _ _ 1 (p .0) in
+    let ch = c .before .before .before .before .before .before .choose .ensures in
+    let is = chosen-is _ _ _ _ _ (p .1 .0) (p .1 .1 .0) (ch .block _ st (p .1 .1 .1 .1 .1)) in
+    block-taken _ _ (p .0) _ _ _ is _ (p .1 .1 .1 .0) (p .1 .1 .1 .1 .0) _ (ch .searched _ st (p .1 .1 .1 .1 .1)) _ (c .before .before .before .before .take-at .ensures)
 
 pub take-block-spec : {M : Type 1} → statement M
 take-block-spec =
@@ -36,6 +37,5 @@ take-block-spec =
     slice-aggregate-choose
     choose-requires
     take-at-requires
-    bound-after-requires
     same-length
     returns)

@@ -1,5 +1,6 @@
 use borrow.Author.Needs.{needs}
 use mathlib.Core.Path.{_≡_, _∙_, sym}
+use mathlib.Core.Option.{some}
 use Prim.Native.Nat.{_-_}
 use native.Mathlib.Omega.{arith}
 use lib.Pow.{pow-pos}
@@ -12,17 +13,17 @@ use Rattle.steps.proofs.mapping.map_blocks.Statement.{statement}
 use Rattle.steps.proofs.mapping.map_blocks.Tie as tie
 
 abbrev Inv-loop : tie.InvT-loop
-Inv-loop frames₀ part₀ pool owner n rights page done₀ blocks₀ known₀ frames part done blocks known =
-    Going pool frames₀ owner n frames done blocks known × (part ≡ mapWords part₀ page done rights (framesFor pool (freeIn frames₀) n))
+Inv-loop frames₀ part₀ pool owner n rights page done₀ blocks₀ known₀ next₀ frames part done blocks known next =
+    Going pool frames₀ owner (next₀ .0) n frames (next .0) done blocks known × (part ≡ mapWords part₀ page done rights (framesFor pool (freeIn frames₀) (some (next₀ .0)) n))
 
 abbrev μ-loop : tie.MeasureT-loop
-μ-loop frames₀ part₀ pool owner n rights page done₀ blocks₀ known₀ frames part done blocks known = n - done
+μ-loop frames₀ part₀ pool owner n rights page done₀ blocks₀ known₀ next₀ frames part done blocks known next = n - done
 
 nothing-known-requires : tie.Need-nothing-known-requires Inv-loop μ-loop
 nothing-known-requires c κs = search needs
 
 loop-holds : tie.Need-loop-holds Inv-loop μ-loop
-loop-holds c = let p = c .before .before .before .pre in (going-start _ _ _ _ _ (p .0) (p .1 .1 .0) (p .1 .1 .1 .0) (p .1 .1 .1 .1 .0) (c .nothing-known .ensures), blocks-none _ _ _ _)
+loop-holds c = let p = c .before .before .before .pre in (going-start _ _ _ _ _ _ (p .0) (p .1 .1 .0) (p .1 .1 .1 .0) (p .1 .1 .1 .1 .0) (c .nothing-known .ensures), blocks-none _ _ _ _)
 
 add-take-block : tie.Need-add-take-block Inv-loop μ-loop
 add-take-block c = search needs
@@ -34,29 +35,35 @@ take-block-requires : tie.Need-take-block-requires Inv-loop μ-loop
 take-block-requires c κs = let s = c .before .before .loop .inv .0 in (s .lawful, (omega arith, (s .enough, (omega arith, (omega (arith, s .at-most), s .searched)))))
 
 size-of-requires : tie.Need-size-of-requires Inv-loop μ-loop
-size-of-requires c κs = next-placed _ _ _ _ _ _ _ _ (c .before .before .before .before .before .before .loop .inv .0) (c .before .before .before .before .before .loop-test .taken) _ _ (c .before .before .before .take-block .ensures) .small
+size-of-requires c κs = next-placed _ _ _ _ _ _ _ _ _ _ (c .before .before .before .before .before .before .loop .inv .0) (c .before .before .before .before .before .loop-test .taken) _ _ (c .before .before .before .take-block .ensures) .small
 
-add-t18 : tie.Need-add-t18 Inv-loop μ-loop
-add-t18 c = search needs
+add-t20 : tie.Need-add-t20 Inv-loop μ-loop
+add-t20 c = let p = c .before .before .before .before .before .before .before .before .before .before .before .before .pre in omega (arith, p .1 .1 .1 .1 .1 .0, c .before .before .before .before .before .before .before .loop-test .taken)
 
 write-block-requires : tie.Need-write-block-requires Inv-loop μ-loop
 write-block-requires c κs =
     let p = c .before .before .before .before .before .before .before .before .before .before .before .before .pre in
-    let x = next-placed _ _ _ _ _ _ _ _ (c .before .before .before .before .before .before .before .before .loop .inv .0) (c .before .before .before .before .before .before .before .loop-test .taken) _ _ (c .before .before .before .before .before .take-block .ensures) in
+    let x = next-placed _ _ _ _ _ _ _ _ _ _ (c .before .before .before .before .before .before .before .before .loop .inv .0) (c .before .before .before .before .before .before .before .loop-test .taken) _ _ (c .before .before .before .before .before .take-block .ensures) in
     let l = lawful-facts _ _ (c .before .before .before .before .before .before .before .before .loop .inv .0 .lawful) in (blocks-long _ _ _ _ _ _ (c .before .before .before .before .before .before .before .before .loop .inv .1) ∙ p .1 .0, (x .small, (omega (arith, x .inside, l .small), (omega (arith, x .fits, p .1 .1 .1 .1 .1 .0), p .1 .1 .1 .1 .1 .1))))
 
 add-done : tie.Need-add-done Inv-loop μ-loop
-add-done c = let x = next-placed _ _ _ _ _ _ _ _ (c .before .before .before .before .before .before .before .before .before .before .before .before .loop .inv .0) (c .before .before .before .before .before .before .before .before .before .before .before .loop-test .taken) _ _ (c .before .before .before .before .before .before .before .before .before .take-block .ensures) in omega (arith, x .fits, c .before .before .before .before .before .size-of .ensures)
+add-done c = let x = next-placed _ _ _ _ _ _ _ _ _ _ (c .before .before .before .before .before .before .before .before .before .before .before .before .loop .inv .0) (c .before .before .before .before .before .before .before .before .before .before .before .loop-test .taken) _ _ (c .before .before .before .before .before .before .before .before .before .take-block .ensures) in omega (arith, x .fits, c .before .before .before .before .before .size-of .ensures)
 
 add-blocks : tie.Need-add-blocks Inv-loop μ-loop
 add-blocks c = omega (arith, c .before .before .before .before .before .before .before .before .before .before .before .before .loop .inv .0 .few)
 
+end-of-requires : tie.Need-end-of-requires Inv-loop μ-loop
+end-of-requires c κs =
+    let x = next-placed _ _ _ _ _ _ _ _ _ _ (c .before .before .before .before .before .before .before .before .before .before .before .before .loop .inv .0) (c .before .before .before .before .before .before .before .before .before .before .before .loop-test .taken) _ _ (c .before .before .before .before .before .before .before .before .before .take-block .ensures) in
+    let l = lawful-facts _ _ (c .before .before .before .before .before .before .before .before .before .before .before .before .loop .inv .0 .lawful) in
+    (x .small, omega (arith, x .inside, l .small))
+
 loop-less : tie.Need-loop-less Inv-loop μ-loop
-loop-less c = let x = next-placed _ _ _ _ _ _ _ _ (c .before .before .before .before .before .before .before .before .before .before .before .before .loop .inv .0) (c .before .before .before .before .before .before .before .before .before .before .before .loop-test .taken) _ _ (c .before .before .before .before .before .before .before .before .before .take-block .ensures) in omega (arith, x .fits, c .before .before .before .before .before .size-of .ensures, pow-pos (c .before .before .before .before .before .before .before .before .before .take-block .result .block .order))
+loop-less c = let x = next-placed _ _ _ _ _ _ _ _ _ _ (c .before .before .before .before .before .before .before .before .before .before .before .before .before .loop .inv .0) (c .before .before .before .before .before .before .before .before .before .before .before .before .loop-test .taken) _ _ (c .before .before .before .before .before .before .before .before .before .before .take-block .ensures) in omega (arith, x .fits, c .before .before .before .before .before .before .size-of .ensures, pow-pos (c .before .before .before .before .before .before .before .before .before .before .take-block .result .block .order))
 
 loop-again : tie.Need-loop-again Inv-loop μ-loop
 loop-again c =
-    let z = c .before .before .before .before .before .size-of .ensures in (going-on _ _ _ _ _ _ _ _ (c .before .before .before .before .before .before .before .before .before .before .before .before .loop .inv .0) (c .before .before .before .before .before .before .before .before .before .before .before .loop-test .taken) _ _ (c .before .before .before .before .before .before .before .before .before .take-block .ensures) _ z, block-more _ _ _ _ _ _ _ _ _ _ _ (next-placed _ _ _ _ _ _ _ _ (c .before .before .before .before .before .before .before .before .before .before .before .before .loop .inv .0) (c .before .before .before .before .before .before .before .before .before .before .before .loop-test .taken) _ _ (c .before .before .before .before .before .before .before .before .before .take-block .ensures)) (c .before .before .before .before .before .before .before .before .before .before .before .before .loop .inv .1) z (c .before .before .before .write-block .ensures))
+    let z = c .before .before .before .before .before .before .size-of .ensures in (going-on _ _ _ _ _ _ _ _ _ _ (c .before .before .before .before .before .before .before .before .before .before .before .before .before .loop .inv .0) (c .before .before .before .before .before .before .before .before .before .before .before .before .loop-test .taken) _ _ (c .before .before .before .before .before .before .before .before .before .before .take-block .ensures) _ _ z (c .end-of .ensures), block-more _ _ _ _ _ _ _ _ _ _ _ (next-placed _ _ _ _ _ _ _ _ _ _ (c .before .before .before .before .before .before .before .before .before .before .before .before .before .loop .inv .0) (c .before .before .before .before .before .before .before .before .before .before .before .before .loop-test .taken) _ _ (c .before .before .before .before .before .before .before .before .before .before .take-block .ensures)) (c .before .before .before .before .before .before .before .before .before .before .before .before .before .loop .inv .1) z (c .before .before .before .before .write-block .ensures))
 
 same-length : tie.Need-same-length Inv-loop μ-loop
 same-length c = lawful-facts _ _ (c .before .loop .inv .0 .lawful) .len ∙ sym (lawful-facts _ _ (c .before .before .before .before .before .pre .0) .len)
@@ -69,7 +76,7 @@ returns c =
     let s = c .before .loop .inv .0 in
     let h = c .loop-test .left in
     let e : c .before .loop .done ≡ c .before .before .before .before .before .args .n = omega (arith, s .at-most) in
-    (all-blocks _ _ _ _ _ _ _ _ s h, (all-words _ _ _ _ _ _ _ _ s h, rw e at (c .before .loop .inv .1)))
+    (all-blocks _ _ _ _ _ _ _ _ _ _ s h, (all-words _ _ _ _ _ _ _ _ _ _ s h, rw e at (c .before .loop .inv .1)))
 
 pub map-blocks-spec : {M : Type 1} → statement M
 map-blocks-spec =
@@ -83,10 +90,11 @@ map-blocks-spec =
     sub-take-block
     take-block-requires
     size-of-requires
-    add-t18
+    add-t20
     write-block-requires
     add-done
     add-blocks
+    end-of-requires
     loop-less
     loop-again
     same-length
