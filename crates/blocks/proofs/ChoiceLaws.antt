@@ -116,11 +116,11 @@ module _ (F : ℕ) (free : ℕ → Bool) where
   module _ (s i : ℕ) where
     pub order-met : whollyFree F free i s ≡ true → takeOrder F free (some s) i ≡ some (block i s)
     unfolding takeOrder
-    order-met t = rw (t, takeOrder)
+    order-met t = ap (λ (met : Bool). elim met [ true ↦ some (block i s) | false ↦ oldChoice F free i ]) t
 
     pub order-not-met : whollyFree F free i s ≡ false → takeOrder F free (some s) i ≡ takeOrder F free none i
     unfolding takeOrder
-    order-not-met f = rw (f, takeOrder)
+    order-not-met f = ap (λ (met : Bool). elim met [ true ↦ some (block i s) | false ↦ oldChoice F free i ]) f
 
   -- of an order that is served a block is taken, wished for or not
   old-taken : (left i : ℕ) → i ≤ 10 → 2 ^ i ≤ left → is-some (serving F free i) ≡ true → Taking left (takeOrder F free none i)
