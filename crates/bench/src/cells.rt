@@ -81,6 +81,17 @@ pub fn answer(o: Outcome) {
     }
 }
 
+// Whether two calls answer alike.
+pub fn alike(a: Outcome, b: Outcome) -> bool {
+    if a.number != b.number {
+        return false;
+    }
+    if a.first != b.first {
+        return false;
+    }
+    a.second == b.second
+}
+
 fn two_digits(n: u64) {
     if n < 10 {
         decimal(0);

@@ -17,3 +17,12 @@ pub fn since(start: u64) -> u64 {
     }
     now - start
 }
+
+// The time used since it was `start`, or 0 where not every call did the same.
+pub fn since_if(same: bool, start: u64) -> u64 {
+    let time = since(start);
+    if same {
+        return time;
+    }
+    0
+}

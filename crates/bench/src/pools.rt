@@ -50,7 +50,8 @@ pub fn filled(filling: Filling, pool: u32) -> [u32; BUFFER_WORDS] {
             frames::free(&mut frames, pool, pool / 2 + 1, pool / 2);
         }
         Filling::Full => {
-            allocate(&mut frames, whole(pool));
+            let mut out = [0u32; BUFFER_WORDS];
+            allocate(&mut frames, whole(pool), &mut out);
         }
     }
     frames

@@ -1,5 +1,5 @@
 -- One block taken, and what it leaves for the rest of the request.
-use mathlib.Core.Path.{_≡_, refl, ap, _∙_, sym, fun-ext}
+use mathlib.Core.Path.{_≡_, refl, ap, _∙_, sym, subst, fun-ext}
 use mathlib.Core.Bool.{Bool, true}
 use mathlib.Core.List.{List, [], _∷_, _++_, append-nil}
 use mathlib.Core.Option.{Option, none, some}
@@ -25,11 +25,11 @@ use Rattle.blocks.specs.Choice.{takeBlock, without, leftAfter, endOf, wi
 use Rattle.blocks.specs.Owners.{put, give}
 use Rattle.blocks.specs.Inner.Taking.{Searched, BlockTaken}
 use Rattle.blocks.specs.Inner.Around.{startOf}
-use Rattle.blocks.specs.Inner.Passes.{asBlock, PartOf, handed}
+use Rattle.blocks.specs.Inner.Passes.{asBlock, boundAfter, PartOf, handed}
 use Rattle.blocks.proofs.AroundLaws.{in-block, block-in}
 use Rattle.blocks.proofs.WordLaws.{owners-small, lawful-is, lawful-yes, owners-high, owners-again, table-lawful}
 use Rattle.blocks.proofs.ChoiceLaws.{Took, Taking, taking, one, end, took-free, took-count, own, length-own, frames-cons, fuel}
-use Rattle.blocks.proofs.SearchedLaws.{stays}
+use Rattle.blocks.proofs.WishLaws.{known-after}
 use Rattle.blocks.proofs.TakeLaws.{handed-in, handed-out, free-after}
 
 -- giving
@@ -178,15 +178,26 @@ module _ (F : ℕ) (b : List ℕ) (lw : lawful F b ≡ true) (wish left : ℕ) (
 -- the promise of one block, from what the code does
 
 pub block-taken : (F : ℕ) (b : List ℕ) → lawful F b ≡ true → (wish left : ℕ) (x : Block) → takeBlock F (freeIn b) (some wish) left ≡ some x → (o : ℕ) → 1 ≤ o → o + left ≤ 4097
-    → (next : Bound) → Searched F (freeIn b) next → (b′ : List ℕ) → b′ ≡ frameWords F (handed (ownersOf b) (x .order) (x .start .0) o)
+    → (next : Bound) → Searched F (without (freeIn b) (x .order) (x .start .0)) next → (b′ : List ℕ) → b′ ≡ frameWords F (handed (ownersOf b) (x .order) (x .start .0) o)
     → BlockTaken F b o wish left (record { block = x; known = next }) b′
 unfolding handedTo
 block-taken F b lw wish left x is o pos room next searched b′ be =
     record {
       chosen = is;
       words = be ∙ ap (frameWords F) (sym (give-one b x o));
-      searched = rw (then-free F b lw wish left x is o pos room b′ be) (stays F (freeIn b) (x .order) (x .start .0) next searched);
+      searched = rw (then-free F b lw wish left x is o pos room b′ be) searched;
     }
+
+-- the same by what code hands on
+pub chosen-same : (r : Chosen) (x : Block) (next : Bound) → r .block ≡ x → r .known ≡ next → r ≡ record { block = x; known = next }
+chosen-same r x next xe ne = rw (← xe, ← ne)
+
+pub block-searched : (F : ℕ) (b : List ℕ) (lw : lawful F b ≡ true) (wish left : ℕ) (x : Block) (is : takeBlock F (freeIn b) (some wish) left ≡ some x) (o : ℕ) → 1 ≤ o → o + left ≤ 4097
+    → (known : Bound) → Searched F (freeIn b) known → (r : Chosen) → r .block ≡ x → r .known ≡ boundAfter known x wish left → (b′ : List ℕ) → b′ ≡ frameWords F (handed (ownersOf b) (x .order) (x .start .0) o)
+    → BlockTaken F b o wish left r b′
+block-searched F b lw wish left x is o pos room known searched r xe ne b′ be =
+    subst (λ (y : Chosen). BlockTaken F b o wish left y b′) (sym (chosen-same r x (boundAfter known x wish left) xe ne))
+    (block-taken F b lw wish left x is o pos room (boundAfter known x wish left) (known-after F (freeIn b) wish left known x searched is (w F b lw wish left x is .starts)) b′ be)
 
 -- what the block leaves for the rest of the request
 pub record Rest (F : ℕ) (b : List ℕ) (o wish left : ℕ) (x : Block) (b′ : List ℕ) : Type 0 where

@@ -6,10 +6,11 @@ use mathlib.Core.Option.{Option, none, some}
 use Prim.Native.Nat.{ℕ, _+_, _^_, _-_, _<_, _≤_}
 use native.Mathlib.Decide.{decLe, ℕ-discrete}
 use native.Mathlib.Omega.{arith}
+use lib.Dec.{eqb}
 use lib.ListN.{getD}
 use lib.Pow.{pow-mono}
-use borrow.Author.Tests.{eq-eqb, ne-eqb, eqb-true}
-use Rattle.words.proofs.Cases.{by-test, by-dec, true-false, none-some, not-there}
+use borrow.Author.Tests.{eq-eqb, ne-eqb, eqb-true, not-true}
+use Rattle.words.proofs.Cases.{by-test, by-dec, true-false, and-true, none-some, not-there}
 use Rattle.blocks.specs.declared.Block.{Block}
 use Rattle.blocks.specs.declared.Bound.{Bound}
 use Rattle.blocks.specs.declared.Cut.{Cut}
@@ -18,13 +19,13 @@ use Rattle.blocks.specs.FrameWords.{ownersOf, freeIn, lawful}
 use Rattle.blocks.specs.Choice.{orderFor, takeBlock}
 use Rattle.blocks.specs.Inner.Around.{startOf, around, orderWord}
 use Rattle.blocks.specs.Inner.Taking.{Clear, Searched}
-use Rattle.blocks.specs.Inner.Passes.{orderWithin, orderAt, least, asBlock, scanFrom, boundAfter}
+use Rattle.blocks.specs.Inner.Passes.{orderWithin, orderAt, least, asBlock, scanFrom}
 use Rattle.blocks.specs.Inner.Marks.{goneAt, startsBy, Stands, Finds, Wished, Chooses}
 use Rattle.blocks.proofs.AroundLaws.{in-block, start-in, around-at, at-around, around-same, smaller, order-here}
 use Rattle.blocks.proofs.FreeBlockLaws.{whole-at, at-whole, in-block-at}
 use Rattle.blocks.proofs.WordLaws.{free-zero, start-word, other-word, free-frame, Lawful, lawful-is, word-block, block-word}
 use Rattle.blocks.proofs.ChoiceLaws.{Taking, one, end, taking, took-free}
-use Rattle.blocks.proofs.SearchedLaws.{within, least-is, above-top, order-low, None, none-zero, scan-start, passed, skipped, chosen, chosen-none, as-some, known-then, bound-same}
+use Rattle.blocks.proofs.SearchedLaws.{within, least-is, above-top, order-low, None, none-zero, scan-start, passed, skipped, chosen, chosen-none, as-some}
 use Rattle.blocks.proofs.WishLaws.{wish-met, wish-not-met, old-order, order-whole}
 use Rattle.blocks.proofs.AllocateLaws.{took}
 
@@ -39,15 +40,15 @@ module _ (b m : List ℕ) (k s : ℕ) where
   unfolding startsBy
   starts-other n = rw (ne-eqb _ _ n, startsBy)
 
-  -- by what code has read
-  pub starts-read : (gone t : Bool) → getD b s 0 ≡ 16384 + k → gone ≡ goneAt m s → not gone ≡ t → startsBy b m k s ≡ t
-  starts-read gone t e ge te = sym (starts-if e) ∙ ap not (sym ge) ∙ te
+  pub starts-left : startsBy b m k s ≡ true → goneAt m s ≡ false
+  unfolding startsBy
+  starts-left t = not-true _ (and-true (eqb (getD b s 0) (16384 + k)) (not (goneAt m s)) t .1)
 
 module _ (F : ℕ) (b m w : List ℕ) (st : Stands F b m w) (k s : ℕ) (hk : k ≤ 10) (h : s < F) where
   by-first : startsBy b m k s ≡ true → getD w s 0 ≡ 16384 + k
   by-first t = eqb-true _ _ (st .firsts k s hk h ∙ t)
 
-  first-by : getD w s 0 ≡ 16384 + k → startsBy b m k s ≡ true
+  pub first-by : getD w s 0 ≡ 16384 + k → startsBy b m k s ≡ true
   first-by e = sym (st .firsts k s hk h) ∙ eq-eqb _ _ e
 
 -- a wish
@@ -158,8 +159,8 @@ module _ (F : ℕ) (b m : List ℕ) (x : Bound) where
       passed F w (st .lawful) k f z ze (sc w st known) h (λ e. true-false (startsBy b m k f) (first-by F b m w st k f hk h e) n)
 
 -- the block of this order at s, in the free block of order top
-abbrev pub IsCut : Cut → ℕ → ℕ → ℕ → Bound → Type 0
-IsCut r order s top known = (r .block ≡ block order s) × ((r .top ≡ top) × (r .known ≡ known))
+abbrev pub IsCut : Cut → ℕ → ℕ → ℕ → Type 0
+IsCut r order s top = (r .block ≡ block order s) × (r .top ≡ top)
 
 module _ (F : ℕ) (b m : List ℕ) (x : Bound) (top t : ℕ) (n : Whatever F b m x (λ w. None F (freeIn w) (x .limit) top t)) where
   pub order-skipped : (k f : ℕ) → k ≡ orderAt (x .limit) top t → Whatever F b m x (Scanned F k f) → F ≤ f → Whatever F b m x (λ w. None F (freeIn w) (x .limit) top (t + 1))
@@ -169,7 +170,7 @@ module _ (F : ℕ) (b m : List ℕ) (x : Bound) (top t : ℕ) (n : Whatever F b 
   module _ (r : Cut) where
     -- the lowest free block of the order that is tried
     pub word-chosen : (k order f : ℕ) → t < x .limit + 1 → k ≤ 10 → k ≡ orderAt (x .limit) top t → order ≡ least k top → Whatever F b m x (Scanned F k f) → f < F → startsBy b m k f ≡ true
-        → IsCut r order f k x → Finds F b m top x r
+        → IsCut r order f k → Finds F b m top x r
     unfolding Whatever
     word-chosen k order f ht hk ke oe sc h t′ re = record {
       block = λ w left L st known o te.
@@ -177,12 +178,12 @@ module _ (F : ℕ) (b m : List ℕ) (x : Bound) (top t : ℕ) (n : Whatever F b 
           re .0 ∙ chosen F w (st .lawful) left x L top t o te known k f order ht ke (n w st known) (sc w st known .0) h first oe;
       first = λ w st known low.
           let rb = re .0 in
-          let rt = re .1 .0 in
+          let rt = re .1 in
           let q = least-is k top order oe in
           rw (rb, rt) (q .0, h, by-first F b m w st k f hk h t′);
     }
 
-    pub none-chosen : t ≡ x .limit + 1 → IsCut r 11 0 0 x → Finds F b m top x r
+    pub none-chosen : t ≡ x .limit + 1 → IsCut r 11 0 0 → Finds F b m top x r
     unfolding Whatever
     none-chosen e re = record {
       block = λ w left L st known o te. re .0 ∙ chosen-none F w (st .lawful) left x L top t o te known (n w st known) e;
@@ -210,47 +211,37 @@ is-block (some y) x e h = ap some (sym e)
 
 module _ (F : ℕ) (b m : List ℕ) (wish left : ℕ) (x : Bound) where
   -- the wish is met at the order that is chosen
-  wish-chosen : (i high : ℕ) (r : Cut) (then : Bound) → Whatever F b m x (λ w. (orderFor F (freeIn w) left ≡ some i) × Searched F (freeIn w) then) → Wished F b m wish i high → high < 11
-      → IsCut r i wish high then → Chooses F b m wish left x r
+  wish-chosen : (i high : ℕ) (r : Cut) → Whatever F b m x (λ w. orderFor F (freeIn w) left ≡ some i) → Wished F b m wish i high → high < 11 → IsCut r i wish high → Chooses F b m wish left x r
   unfolding Whatever
-  wish-chosen i high r then ok wd h re = record {
-    block = λ w st known. re .0 ∙ as-some _ _ (wish-met F (freeIn w) wish left i (ok w st known .0) (wd .met w st (omega arith) .0));
-    first = λ w st known low. let rb = re .0 in let rt = re .1 .0 in let q = wd .met w st (omega arith) in rw (rb, rt) (q .1, q .2, q .3);
-    searched = λ w st known. let rk = re .1 .1 in rw rk (ok w st known .1);
+  wish-chosen i high r ok wd h re = record {
+    block = λ w st known. re .0 ∙ as-some _ _ (wish-met F (freeIn w) wish left i (ok w st known) (wd .met w st (omega arith) .0));
+    first = λ w st known low. let rb = re .0 in let rt = re .1 in let q = wd .met w st (omega arith) in rw (rb, rt) (q .1, q .2, q .3);
   }
 
 module _ (F : ℕ) (b m : List ℕ) (wish left : ℕ) (x : Bound) (L top : ℕ) (o : orderWithin left ≡ some L) (te : top ≡ least L (x .limit)) where
   -- the wish is met at the largest order that can be chosen
-  pub top-chosen : (high : ℕ) (r : Cut) → Wished F b m wish top high → high < 11 → IsCut r top wish high x → Chooses F b m wish left x r
+  pub top-chosen : (high : ℕ) (r : Cut) → Wished F b m wish top high → high < 11 → IsCut r top wish high → Chooses F b m wish left x r
   unfolding Whatever
   top-chosen high r wd h re =
-      wish-chosen F b m wish left x top high r x (λ w st known.
+      wish-chosen F b m wish left x top high r (λ w st known.
       let size : 2 ^ top ≤ 2 ^ L = pow-mono (least-is L (x .limit) top te .0) in
       let fits : 2 ^ top ≤ left = omega (arith, within left L o .fits) in
-      (order-whole F (freeIn w) left top wish fits (wd .met w st (omega arith) .0) (above-top F (freeIn w) left x L top o te known), known)) wd h re
+      order-whole F (freeIn w) left top wish fits (wd .met w st (omega arith) .0) (above-top F (freeIn w) left x L top o te known)) wd h re
 
-  module _ (old : Cut) (fd : Finds F b m top x old) (then : Bound) (be : then ≡ boundAfter x (old .block) left) where
+  module _ (old : Cut) (fd : Finds F b m top x old) where
     old-is : (w : List ℕ) → Stands F b m w → Searched F (freeIn w) x → old .block .order ≤ 10 → takeBlock F (freeIn w) none left ≡ some (old .block)
     old-is w st known low = is-block _ _ (fd .block w left L st known o te) low
 
-    then-known : Whatever F b m x (λ w. Searched F (freeIn w) then)
-    unfolding Whatever
-    then-known w st known =
-        rw be (by-dec (decLe (old .block .order) 10)
-        (λ low. known-then F (freeIn w) left L x (old .block) o known (old-is w st known low))
-        (λ high. rw (← bound-same x (old .block) left (λ lt. absurd (omega arith))) known))
-
     -- it is met at the order of the old choice
-    pub low-chosen : (low : ℕ) (r : Cut) → Wished F b m wish (old .block .order) low → low < 11 → IsCut r (old .block .order) wish low then → Chooses F b m wish left x r
+    pub low-chosen : (low : ℕ) (r : Cut) → Wished F b m wish (old .block .order) low → low < 11 → IsCut r (old .block .order) wish low → Chooses F b m wish left x r
     unfolding Whatever
     low-chosen low r wd h re =
-        wish-chosen F b m wish left x (old .block .order) low r then (λ w st known.
-        (old-order F (freeIn w) left (old .block) (old-is w st known (omega (arith, wd .met w st (omega arith) .1))), then-known w st known)) wd h re
+        wish-chosen F b m wish left x (old .block .order) low r (λ w st known.
+        old-order F (freeIn w) left (old .block) (old-is w st known (omega (arith, wd .met w st (omega arith) .1)))) wd h re
 
     module _ (pos : 1 ≤ left) where
       -- it is not met at that order
-      old-chosen : Whatever F b m x (λ w. old .block .order ≤ 10 → whollyFree F (freeIn w) (old .block .order) wish ≡ false)
-          → Chooses F b m wish left x (record { block = old .block; top = old .top; known = then })
+      old-chosen : Whatever F b m x (λ w. old .block .order ≤ 10 → whollyFree F (freeIn w) (old .block .order) wish ≡ false) → Chooses F b m wish left x old
       unfolding Whatever
       old-chosen n = record {
         block = λ w st known. fd .block w left L st known o te ∙ ap asBlock (sym (by-dec (decLe (old .block .order) 10)
@@ -260,7 +251,6 @@ module _ (F : ℕ) (b m : List ℕ) (wish left : ℕ) (x : Bound) (L top : ℕ) 
             let q = fd .first w st known low in
             let starts = word-block F w (lawful-is F w (st .lawful)) (old .top) (old .block .start .0) (q .1) (q .2) .aligned in
             (q .0, rw starts (q .1), rw starts (q .2));
-        searched = then-known;
       }
         where
           none-there : (w : List ℕ) → Stands F b m w → Searched F (freeIn w) x → 10 < old .block .order → takeBlock F (freeIn w) none left ≡ none
@@ -270,11 +260,11 @@ module _ (F : ℕ) (b m : List ℕ) (wish left : ℕ) (x : Bound) (L top : ℕ) 
               let e′ = ap (λ (z : Block). z .order) same in
               omega (arith, t .below, t .from .maximal .small))
 
-      pub old-low : (low : ℕ) → Wished F b m wish (old .block .order) low → 11 ≤ low → Chooses F b m wish left x (record { block = old .block; top = old .top; known = then })
+      pub old-low : (low : ℕ) → Wished F b m wish (old .block .order) low → 11 ≤ low → Chooses F b m wish left x old
       unfolding Whatever
       old-low low wd h = old-chosen (λ w st known le. wd .not-met w st (omega arith))
 
-      pub old-top : (high : ℕ) → Wished F b m wish top high → 11 ≤ high → top ≤ old .block .order → Chooses F b m wish left x (record { block = old .block; top = old .top; known = then })
+      pub old-top : (high : ℕ) → Wished F b m wish top high → 11 ≤ high → top ≤ old .block .order → Chooses F b m wish left x old
       unfolding Whatever
       old-top high wd h ge = old-chosen (λ w st known le.
           let up = order-low F (freeIn w) left x L top o te known (old .block .order) (old-order F (freeIn w) left (old .block) (old-is w st known le)) in

@@ -2,7 +2,7 @@
 use mathlib.Core.Path.{_≡_, refl, ap, _∙_, sym, subst}
 use mathlib.Core.Bool.{Bool, true, false, _&&_, _||_, not}
 use mathlib.Core.List.{List}
-use mathlib.Core.Option.{Option, none, some}
+use mathlib.Core.Option.{none, some}
 use Prim.Native.Nat.{ℕ, _+_, _/_, _%_, _^_, _-_, _<_, _≤_}
 use native.Mathlib.Decide.{decLt, decLe, ℕ-discrete}
 use native.Mathlib.Omega.{arith}
@@ -10,33 +10,33 @@ use lib.Dec.{eqb}
 use lib.ListN.{length, getD, set, replicate}
 use lib.Seq.{getD-set-same, getD-set-other}
 use lib.Pow.{pow-pos, pow-mono}
-use borrow.Author.Tests.{eqb-true, eq-eqb, ne-eqb}
+use borrow.Author.Tests.{eq-eqb, ne-eqb}
 use Rattle.words.specs.Bits.{hasBit}
 use Rattle.words.specs.Counts.{count}
-use Rattle.words.specs.Searches.{largest}
 use Rattle.words.proofs.Cases.{by-test, by-dec, true-false, none-some, or-false, or-none, and-false}
 use Rattle.words.proofs.TableLaws.{all-default, getD-tabulate}
-use Rattle.words.proofs.SearchLaws.{Largest, greatest, nothing, largest-is}
 use Rattle.words.proofs.PowerLaws.{double, pow-less}
 use Rattle.words.proofs.BitLaws.{no-bit, bit-added, bit-fits}
 use Rattle.blocks.specs.declared.Block.{Block}
 use Rattle.blocks.specs.declared.Bound.{Bound}
+use Rattle.blocks.specs.declared.Chosen.{Chosen}
 use Rattle.blocks.specs.declared.Cut.{Cut}
 use Rattle.blocks.specs.Blocks.{block, whollyFree}
 use Rattle.blocks.specs.FrameWords.{ownersOf, freeIn, lawful, frameWord, frameWords}
-use Rattle.blocks.specs.Choice.{isServed, orderFor, takeBlock, without, endOf}
+use Rattle.blocks.specs.Choice.{lowest, orderFor, takeBlock, without, endOf, HeldBefore}
 use Rattle.blocks.specs.Inner.Around.{startOf, around}
-use Rattle.blocks.specs.Inner.Passes.{orderWithin, PartOf, handed}
+use Rattle.blocks.specs.Inner.Passes.{orderWithin, boundAfter, PartOf, handed}
 use Rattle.blocks.specs.Inner.Taking.{Searched}
-use Rattle.blocks.specs.Inner.Marks.{aheadOf, goneAt, startsBy, Stands, Chooses, Ahead, Behind, Marking, Previewed, BlockMarked, GoneMarked, CutMarked, the-whole, more-above}
+use Rattle.blocks.specs.Inner.Marks.{aheadOf, goneAt, startsBy, Stands, Chooses, Ahead, Marking, Previewed, BlockMarked, GoneMarked, CutMarked, the-whole, more-above}
 use Rattle.blocks.proofs.AroundLaws.{finer, start-next, coarser, in-block, block-in, start-in, around-at, at-around, smaller, Maximal, maximal-order, maximal-same, without-free, without-out, true-without}
 use Rattle.blocks.proofs.FreeBlockLaws.{BlockAt, whole-at, at-whole, in-block-at}
 use Rattle.blocks.proofs.WordLaws.{Lawful, lawful-is, word-block}
-use Rattle.blocks.proofs.ChoiceLaws.{lowest-at, at-serving, at-served}
-use Rattle.blocks.proofs.SearchedLaws.{within, too-large, cut-from}
-use Rattle.blocks.proofs.WishLaws.{Taken, at-wish, as-old, taken-is, wish-met, order-whole}
+use Rattle.blocks.proofs.ChoiceLaws.{lowest-at, at-lowest}
+use Rattle.blocks.proofs.SearchedLaws.{NoneAbove, within, too-large, cut-from, none-larger, stays}
+use Rattle.blocks.proofs.WishLaws.{Taken, at-wish, as-old, taken-is, taken-order, wish-met, order-whole}
 use Rattle.blocks.proofs.TakeLaws.{old-word, kept-word, word-half}
-use Rattle.blocks.proofs.AllocateLaws.{chosen-is, chosen-inside, chosen-part, Rest, block-taken, rest-of}
+use Rattle.blocks.proofs.AllocateLaws.{chosen-is, chosen-small, chosen-inside, chosen-part, Rest, block-taken, chosen-same, block-searched, rest-of}
+use Rattle.blocks.proofs.ChoosingLaws.{starts-left, first-by}
 
 -- marks that are all 0 stand for the words lent
 
@@ -52,18 +52,11 @@ pub nothing-taken : (F : ℕ) (b : List ℕ) (n : ℕ) → lawful F b ≡ true �
 unfolding startsBy
 nothing-taken F b n lw = record { lawful = lw; firsts = λ k s hk h. sym (and-not _ _ (zero-gone n s)); free = λ g h t. t }
 
-pub nothing-marked : (F : ℕ) (b : List ℕ) (wish left n : ℕ) → lawful F b ≡ true → Behind F (freeIn b) wish → Marking F b (replicate n 0) b wish left
-nothing-marked F b wish left n lw behind =
-    record { behind = behind; lawful = lw; ahead = λ nz some-left. absurd (nz (all-default n 0 0)); stands = λ z. nothing-taken F b n lw }
+pub nothing-marked : (F : ℕ) (b : List ℕ) (wish left n : ℕ) → lawful F b ≡ true → HeldBefore F (freeIn b) wish → Marking F b (replicate n 0) b wish left
+nothing-marked F b wish left n lw before =
+    record { before = before; lawful = lw; ahead = λ nz some-left. absurd (nz (all-default n 0 0)); stands = λ z. nothing-taken F b n lw }
 
 -- the bit of a frame
-
-or-same : (a b : Bool) → (b ≡ true → a ≡ true) → a ≡ (a || b)
-or-same true b h = refl
-or-same false b h = by-test b (λ t. h t ∙ sym t) (λ f. sym f)
-
-pub gone-already : (m : List ℕ) (s : ℕ) → goneAt m s ≡ true → GoneMarked m s m
-gone-already m s t = record { gone = λ g h. or-same (goneAt m g) (eqb g s) (λ e. ap (goneAt m) (eqb-true g s e) ∙ t); ahead = refl }
 
 same-place : (g s : ℕ) → g / 32 ≡ s / 32 → eqb (g % 32) (s % 32) ≡ eqb g s
 same-place g s word =
@@ -104,9 +97,9 @@ ahead-set m len z = omega (arith, getD-set-same m 0 1 0 (omega arith))
 -- after a block
 
 -- the frame before the next wish is taken
-taken-behind : (F : ℕ) (free : ℕ → Bool) (i s : ℕ) → startOf i s ≡ s → Behind F (without free i s) (s + 2 ^ i)
-taken-behind F free i s st = record {
-  taken = λ p e h. by-test (without free i s p)
+held-then : (F : ℕ) (free : ℕ → Bool) (i s : ℕ) → startOf i s ≡ s → HeldBefore F (without free i s) (s + 2 ^ i)
+held-then F free i s st = record {
+  held = λ p e h. by-test (without free i s p)
       (λ t. let size = pow-pos i in absurd (without-out free i s p st t (block-in i s p (omega arith) (omega arith))))
       (λ f. f);
 }
@@ -117,18 +110,13 @@ module _ (F : ℕ) (free : ℕ → Bool) (left i j s : ℕ) (chosen : orderFor F
   whole = whole-at F free j s t
 
   less : left < 2 ^ i + 2 ^ i
-  unfolding orderFor
-  less = go (largest 10 (isServed F free left)) chosen (largest-is 10 (isServed F free left))
-    where
-      go : (o : Option ℕ) → o ≡ some i → Largest 10 (isServed F free left) o → left < 2 ^ i + 2 ^ i
-      go o e (nothing n) = none-some i none refl e
-      go o e (greatest k hi y no-more) =
-          let same : k ≡ i = cc in
-          let q = in-block-at F free j s (whole .0) (whole .2) in
-          by-dec (decLt left (2 ^ i + 2 ^ i)) (λ lt. lt)
-          (λ ge. true-false (isServed F free left (i + 1))
-          (at-served F free left (i + 1) (omega (arith, double i)) (at-serving F free (i + 1) (q .0) _ (omega (arith, q .1)) (q .2) (q .3)))
-          (no-more (i + 1) (omega arith) (omega (arith, whole .0))))
+  unfolding NoneAbove
+  less =
+      by-dec (decLt left (2 ^ i + 2 ^ i)) (λ lt. lt)
+      (λ ge.
+      let q = in-block-at F free j s (whole .0) (whole .2) in
+      let there = at-lowest F free (q .0) (startOf (q .0) s) (q .3) in
+      none-some (there .0) (lowest F free (q .0)) (none-larger F free left i chosen (omega (arith, double i)) (q .0) (omega (arith, q .1)) (q .2)) (there .1))
 
   rest-ahead : Ahead F (without free i s) (s + 2 ^ i) (left - 2 ^ i)
   rest-ahead =
@@ -147,7 +135,7 @@ module _ (F : ℕ) (free : ℕ → Bool) (left i j s : ℕ) (chosen : orderFor F
       }
 
 -- the free block that is cut starts where the block chosen does
-module _ (F : ℕ) (free : ℕ → Bool) (wish left : ℕ) (x : Block) (behind : Behind F free wish) (is : takeBlock F free (some wish) left ≡ some x) (j : ℕ)
+module _ (F : ℕ) (free : ℕ → Bool) (wish left : ℕ) (x : Block) (before : HeldBefore F free wish) (is : takeBlock F free (some wish) left ≡ some x) (j : ℕ)
     (at : BlockAt F free j (startOf j (x .start .0))) where
   own : Maximal F free j (x .start .0)
   own = maximal-same F free j (startOf j (x .start .0)) (x .start .0) (sym (start-in j (x .start .0))) (at .maximal)
@@ -162,20 +150,20 @@ module _ (F : ℕ) (free : ℕ → Bool) (wish left : ℕ) (x : Block) (behind :
       let p : ℕ = x .start .0 - 1 in
       let high = in-block j (x .start .0) (x .start .0) refl .1 in
       let freed = around-at F free j (x .start .0) (own .whole) p (block-in j (x .start .0) p (omega arith) (omega arith)) in
-      true-false (free p) (freed .1) (behind .taken p (omega arith) (omega arith)))
+      true-false (free p) (freed .1) (before .held p (omega arith) (omega arith)))
       (λ ge. omega arith)
 
-  cut-starts : (startOf j (x .start .0) ≡ x .start .0) × (orderFor F free left ≡ some (x .order))
+  cut-starts : startOf j (x .start .0) ≡ x .start .0
   cut-starts = go (taken-is F free wish left x is)
     where
-      go : Taken F free wish left x → (startOf j (x .start .0) ≡ x .start .0) × (orderFor F free left ≡ some (x .order))
-      go (at-wish chosen e) = (starts-at-wish e, chosen)
-      go (as-old chosen old) =
+      go : Taken F free wish left x → startOf j (x .start .0) ≡ x .start .0
+      go (at-wish chosen e) = starts-at-wish e
+      go (as-old old) =
           let q = cut-from F free left x old in
           let first = lowest-at F free (q .0) (x .start .0) (q .2) in
           let same : some (q .0) ≡ some j = sym (maximal-order F free (q .0) (x .start .0) (first .maximal)) ∙ maximal-order F free j (x .start .0) own in
           let qj : q .0 ≡ j = cc in
-          (rw qj at (first .aligned), chosen)
+          rw qj at (first .aligned)
 
 -- the free block that was taken whole starts no more, and every other does as it did
 module _ (F : ℕ) (b m w : List ℕ) (st : Stands F b m w) (s i o : ℕ) (x : PartOf F w s i i) (pos : 1 ≤ o) (room : o + 2 ^ i ≤ 4097) (m′ : List ℕ) (g : GoneMarked m s m′) where
@@ -235,7 +223,7 @@ marking-then : (F : ℕ) (b m′ w : List ℕ) (o wish left : ℕ) (x : Block) (
     → ((aheadOf m′ ≡ 0 → ⊥) → 1 ≤ left - 2 ^ (x .order) → Ahead F (without (freeIn w) (x .order) (x .start .0)) (endOf x) (left - 2 ^ (x .order)))
     → (aheadOf m′ ≡ 0 → Stands F b m′ w′) → Marking F b m′ w′ (endOf x) (left - 2 ^ (x .order))
 marking-then F b m′ w o wish left x w′ rest st ahead stands = record {
-  behind = subst (λ (free : ℕ → Bool). Behind F free (endOf x)) (sym (rest .free)) (taken-behind F (freeIn w) (x .order) (x .start .0) st);
+  before = subst (λ (free : ℕ → Bool). HeldBefore F free (endOf x)) (sym (rest .free)) (held-then F (freeIn w) (x .order) (x .start .0) st);
   lawful = rest .lawful;
   ahead = λ nz some-left. subst (λ (free : ℕ → Bool). Ahead F free (endOf x) (left - 2 ^ (x .order))) (sym (rest .free)) (ahead nz some-left);
   stands = stands;
@@ -270,7 +258,7 @@ block-ahead F b m wish left known order nz some-left e = record {
       let x : Block = block order wish in
       let is : takeBlock F free (some wish) left ≡ some x = wish-met F free wish left order (order-ahead F free wish left order e a) whole in
       let w′ : List ℕ = frameWords F (handed (ownersOf w) order wish o) in
-      let taken = block-taken F w (mk .lawful) wish left x is o pos room known searched w′ refl in
+      let taken = block-taken F w (mk .lawful) wish left x is o pos room known (stays F free order wish known searched) w′ refl in
       let rest = rest-of F w o wish left (record { block = x; known = known }) w′ (mk .lawful) pos room enough taken in
       (w′, taken, marking-then F b m w o wish left x w′ rest (whole-at F free order wish whole .1) (λ _. still-ahead F free wish left order e a) (λ z. absurd (nz z)));
 }
@@ -287,39 +275,53 @@ module _ (F : ℕ) (b m : List ℕ) (wish left : ℕ) (known : Bound) (r : Cut) 
   cut-inside : r .block .start .0 < 4096
   cut-inside = omega (arith, chosen-inside F w (st .lawful) wish left (r .block) is, lawful-is F w (st .lawful) .small, pow-pos (r .block .order))
 
+  -- a free block that is chosen whole is not marked yet
+  not-gone : r .block .order ≡ r .top → goneAt m (r .block .start .0) ≡ false
+  not-gone e =
+      let whole = subst (PartOf F w (r .block .start .0) (r .block .order)) (sym e) part in
+      let here = whole .starts in
+      let first = rw here at (whole .first) in
+      let inside = rw here at (whole .inside) in
+      starts-left b m (r .block .order) (r .block .start .0) (first-by F b m w st (r .block .order) (r .block .start .0) (chosen-small F w (st .lawful) wish left (r .block) is) inside first)
+
   -- cut from a larger one, it leaves what is ahead
-  cut-ahead : Behind F (freeIn w) wish → r .block .order < r .top → Ahead F (without (freeIn w) (r .block .order) (r .block .start .0)) (endOf (r .block)) (left - 2 ^ (r .block .order))
-  cut-ahead behind more =
+  cut-ahead : HeldBefore F (freeIn w) wish → r .block .order < r .top → Ahead F (without (freeIn w) (r .block .order) (r .block .start .0)) (endOf (r .block)) (left - 2 ^ (r .block .order))
+  cut-ahead before more =
       let there = word-block F w (lawful-is F w (st .lawful)) (r .top) (startOf (r .top) (r .block .start .0)) (part .inside) (part .first) in
-      let q = cut-starts F (freeIn w) wish left (r .block) behind is (r .top) there in
-      let here = subst (BlockAt F (freeIn w) (r .top)) (q .0) there in
-      rest-ahead F (freeIn w) left (r .block .order) (r .top) (r .block .start .0) (q .1) more (at-whole F (freeIn w) (r .top) (r .block .start .0) (here .maximal .small) (q .0) (here .maximal .whole))
+      let starts = cut-starts F (freeIn w) wish left (r .block) before is (r .top) there in
+      let here = subst (BlockAt F (freeIn w) (r .top)) starts there in
+      rest-ahead F (freeIn w) left (r .block .order) (r .top) (r .block .start .0) (taken-order F (freeIn w) wish left (r .block) is) more (at-whole F (freeIn w) (r .top) (r .block .start .0) (here .maximal .small) starts (here .maximal .whole))
 
 pub cut-facts : (F : ℕ) (b m : List ℕ) (wish left : ℕ) (known : Bound) (r : Cut) → 1 ≤ left → aheadOf m ≡ 0 → Previewed F b m wish left known → Chooses F b m wish left known r
-    → (r .block .order ≤ r .top) × (r .block .start .0 < 4096)
+    → (r .block .order ≤ r .top) × ((r .block .start .0 < 4096) × (r .block .order ≡ r .top → goneAt m (r .block .start .0) ≡ false))
 cut-facts F b m wish left known r some-left z p ch =
-    let st = p .marking .stands z in
-    (part F b m wish left known r some-left ch (p .words) st (p .searched) (p .enough) .below, cut-inside F b m wish left known r some-left ch (p .words) st (p .searched) (p .enough))
+    let st = p .marking .stands z in (
+      part F b m wish left known r some-left ch (p .words) st (p .searched) (p .enough) .below,
+      (cut-inside F b m wish left known r some-left ch (p .words) st (p .searched) (p .enough), not-gone F b m wish left known r some-left ch (p .words) st (p .searched) (p .enough)),
+    )
 
 pub block-cut : (F : ℕ) (b m : List ℕ) (wish left : ℕ) (known : Bound) (r : Cut) (m′ : List ℕ) → aheadOf m ≡ 0 → 1 ≤ left → Chooses F b m wish left known r
-    → CutMarked m (r .block .start .0) (r .block .order) (r .top) m′ → BlockMarked F b m wish left known (record { block = r .block; known = r .known }) m′
-block-cut F b m wish left known r m′ z some-left ch cut = record {
+    → CutMarked m (r .block .start .0) (r .block .order) (r .top) m′ → (y : Chosen) → y .block ≡ r .block → y .known ≡ boundAfter known (r .block) wish left → BlockMarked F b m wish left known y m′
+block-cut F b m wish left known r m′ z some-left ch cut y ye ke = subst (λ (v : Chosen). BlockMarked F b m wish left known v m′) (sym (chosen-same y (r .block) next ye ke)) (record {
   marked = λ w o mk searched enough pos room.
       let x : Block = r .block in
       let st = mk .stands z in
       let xe = is F b m wish left known r some-left ch w st searched enough in
       let p = part F b m wish left known r some-left ch w st searched enough in
       let w′ : List ℕ = frameWords F (handed (ownersOf w) (x .order) (x .start .0) o) in
-      let taken = block-taken F w (mk .lawful) wish left x xe o pos room (r .known) (ch .searched w st searched) w′ refl in
-      let rest = rest-of F w o wish left (record { block = x; known = r .known }) w′ (mk .lawful) pos room enough taken in (
+      let taken = block-searched F w (mk .lawful) wish left x xe o pos room known searched (record { block = x; known = next }) refl refl w′ refl in
+      let rest = rest-of F w o wish left (record { block = x; known = next }) w′ (mk .lawful) pos room enough taken in (
         w′,
         taken,
         marking-then F b m′ w o wish left x w′ rest (p .starts)
-            (λ nz _. ahead nz (cut-ahead F b m wish left known r some-left ch w st searched enough (mk .behind)) cut)
+            (λ nz _. ahead nz (cut-ahead F b m wish left known r some-left ch w st searched enough (mk .before)) cut)
             (λ none-ahead. stands none-ahead (λ e g. still-stands F b m w st (x .start .0) (x .order) o (subst (PartOf F w (x .start .0) (x .order)) (sym e) p) pos (omega (arith, rest .fits)) m′ g (rest .lawful) (rest .free)) cut),
       );
-}
+})
   where
+    next : Bound
+    next = boundAfter known (r .block) wish left
+
     ahead : {P : Type 0} → (aheadOf m′ ≡ 0 → ⊥) → (r .block .order < r .top → P) → CutMarked m (r .block .start .0) (r .block .order) (r .top) m′ → P
     ahead nz above (the-whole e g) = absurd (nz (g .ahead ∙ z))
     ahead nz above (more-above lt n) = above lt

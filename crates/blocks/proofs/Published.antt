@@ -16,7 +16,7 @@ use Rattle.blocks.specs.declared.Block.{Block}
 use Rattle.blocks.specs.declared.Bound.{Bound}
 use Rattle.blocks.specs.declared.Chosen.{Chosen}
 use Rattle.blocks.specs.FrameWords.{isPoolSize, isOwner, ownerOf, ownersOf, freeOf, freeIn, lawful, frameWords}
-use Rattle.blocks.specs.Choice.{takeBlock, endOf, takeBlocks, framesOf, blocksFor, framesFor, blockCount}
+use Rattle.blocks.specs.Choice.{takeBlock, endOf, takeBlocks, framesOf, blocksFor, framesFor, blockCount, HeldBefore}
 use Rattle.blocks.specs.Owners.{give, inSpan, freed, holds}
 use Rattle.blocks.specs.Inner.Taking.{Searched, nothingKnown, BlockTaken}
 use Rattle.blocks.specs.Inner.Marks.{Marking, Previewed, BlockMarked}
@@ -260,9 +260,9 @@ pub record Trying (F : ℕ) (b : List ℕ) (w₀ n : ℕ) (m : List ℕ) (w done
   pub going : Going F b 1 w₀ n words w done blocks known
   pub marking : Marking F b m words w (n - done)
 
-pub trying-start : (F : ℕ) (b : List ℕ) (w n : ℕ) (known : Bound) → lawful F b ≡ true → n ≤ count F (freeIn b) → n ≤ 4096 → ((f : ℕ) → w ≡ f + 1 → w < F → freeIn b f ≡ false) → known ≡ nothingKnown → Trying F b w n (replicate 129 0) w 0 0 known
-trying-start F b w n known lw enough few behind e =
-    record { words = b; going = going-start F b 1 w n known lw enough (omega arith) (omega arith) e; marking = nothing-marked F b w (n - 0) 129 lw (record { taken = behind }) }
+pub trying-start : (F : ℕ) (b : List ℕ) (w n : ℕ) (known : Bound) → lawful F b ≡ true → n ≤ count F (freeIn b) → n ≤ 4096 → HeldBefore F (freeIn b) w → known ≡ nothingKnown → Trying F b w n (replicate 129 0) w 0 0 known
+trying-start F b w n known lw enough few before e =
+    record { words = b; going = going-start F b 1 w n known lw enough (omega arith) (omega arith) e; marking = nothing-marked F b w (n - 0) 129 lw before }
 
 module _ (F : ℕ) (b : List ℕ) (w₀ n : ℕ) (m : List ℕ) (w done blocks : ℕ) (known : Bound) (s : Trying F b w₀ n m w done blocks known) where
   -- what the next block asks

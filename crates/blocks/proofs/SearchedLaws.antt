@@ -9,7 +9,7 @@ use native.Mathlib.Omega.{arith}
 use lib.Dec.{eqb, leb, ltb}
 use lib.ListN.{getD}
 use lib.Pow.{pow-mono}
-use borrow.Author.Tests.{leb-true, leb-false, le-leb, lt-leb, eqb-true, eq-eqb, ne-eqb, lt-ltb, le-ltb}
+use borrow.Author.Tests.{leb-true, le-leb, lt-leb, eqb-true, eq-eqb, ne-eqb, lt-ltb, le-ltb}
 use Rattle.words.specs.Searches.{largest, firstFrom, is-some}
 use Rattle.words.proofs.Cases.{by-test, by-dec, true-false, and-false, none-some, not-there}
 use Rattle.words.proofs.SearchLaws.{First, found, missing, firstFrom-is, first-unique, first-none, Largest, greatest, nothing, largest-is, largest-unique, largest-none, some-is, none-is}
@@ -18,11 +18,11 @@ use Rattle.blocks.specs.declared.Block.{Block}
 use Rattle.blocks.specs.declared.Bound.{Bound}
 use Rattle.blocks.specs.Blocks.{block, freeBlock}
 use Rattle.blocks.specs.FrameWords.{freeIn, lawful}
-use Rattle.blocks.specs.Choice.{lowest, serving, isServed, orderFor, cutAt, takeFrom, oldChoice, takeOrder, takeBlock, without}
+use Rattle.blocks.specs.Choice.{lowest, serving, isServed, orderFor, cutAt, takeFrom, oldChoice, takeOrder, takeBlock, endOf, without}
 use Rattle.blocks.specs.Inner.Around.{startOf, around}
 use Rattle.blocks.specs.Inner.Taking.{Clear, Searched, nothingKnown}
-use Rattle.blocks.specs.Inner.Passes.{orderWithin, orderAt, least, TopOrder, asBlock, scanFrom, boundAfter}
-use Rattle.blocks.proofs.AroundLaws.{start-next, in-block, block-in, start-same, start-start, around-at, at-around, without-free}
+use Rattle.blocks.specs.Inner.Passes.{orderWithin, orderAt, least, TopOrder, asBlock, scanFrom, fromAfter, boundAfter}
+use Rattle.blocks.proofs.AroundLaws.{start-next, in-block, block-in, start-same, start-start, around-at, at-around, without-free, without-out}
 use Rattle.blocks.proofs.FreeBlockLaws.{BlockAt, free-block-at, at-free-block, in-block-at}
 use Rattle.blocks.proofs.WordLaws.{lawful-is, word-block, no-block}
 use Rattle.blocks.proofs.ChoiceLaws.{lowest-at, at-lowest, serving-at, at-serving, at-served, old-choice}
@@ -144,7 +144,7 @@ module _ (F : ℕ) (free : ℕ → Bool) (limit top : ℕ) where
       ap (lowest F free) (sym o) ∙ n (limit - j) (omega arith)
 
 -- no free block has an order above limit
-NoneAbove : ℕ → (ℕ → Bool) → ℕ → Type 0
+unfoldable pub NoneAbove : ℕ → (ℕ → Bool) → ℕ → Type 0
 NoneAbove F free limit = (k : ℕ) → limit < k → k ≤ 10 → lowest F free k ≡ none
 
 module _ (F : ℕ) (free : ℕ → Bool) (left : ℕ) where
@@ -258,7 +258,7 @@ module _ (F : ℕ) (free : ℕ → Bool) (k f : ℕ) where
       go o e (missing m) = none-some f none refl e
 
 -- no free block of order k was missed below the frame from which it is scanned
-from-clear : (F : ℕ) (free : ℕ → Bool) (x : Bound) (k s : ℕ) → Searched F free x → s ≡ scanFrom x k → Clear F free k s
+pub from-clear : (F : ℕ) (free : ℕ → Bool) (x : Bound) (k s : ℕ) → Searched F free x → s ≡ scanFrom x k → Clear F free k s
 unfolding scanFrom
 from-clear F free x k s known e =
     by-test (eqb k (x .limit))
@@ -356,31 +356,31 @@ module _ (F : ℕ) (free : ℕ → Bool) where
       go none eo = none-some x none refl eo
       go (some i) eo = let p = from-is i x (serving F free i) eo in (p .1 .0, ap (serving F free) (p .0) ∙ p .1 .1, p .1 .2)
 
-  -- a block below the order that fits: no larger order has one, and it is the first of its order
-  lower : (left w : ℕ) (x : Block) → Within left w → takeBlock F free none left ≡ some x → x .order < w → NoneAbove F free (x .order) × (lowest F free (x .order) ≡ some (x .start .0))
-  unfolding takeBlock orderFor takeOrder oldChoice NoneAbove
-  lower left w x wi e lt = go (largest 10 (isServed F free left)) e (largest-is 10 (isServed F free left))
+  -- where a block of the next order fits too, none of a larger order is free
+  pub none-larger : (left i : ℕ) → orderFor F free left ≡ some i → 2 ^ (i + 1) ≤ left → NoneAbove F free i
+  unfolding orderFor NoneAbove
+  none-larger left i e fits = go (largest 10 (isServed F free left)) e (largest-is 10 (isServed F free left))
     where
-      go : (o : Option ℕ) → _≡_ {A = Option Block} (elim o [ none ↦ none | some i ↦ oldChoice F free i ]) (some x) → Largest 10 (isServed F free left) o
-          → ((k : ℕ) → x .order < k → k ≤ 10 → lowest F free k ≡ none) × (lowest F free (x .order) ≡ some (x .start .0))
-      go o eo (nothing n) = none-some x none refl eo
-      go o eo (greatest i hi y more) =
-          let p = from-is i x (serving F free i) eo in
-          let oi : x .order ≡ i = p .0 in
-          let j : ℕ = p .1 .0 in
-          let q = serving-at F free i j hi (p .1 .1) in
-          let ij = q .0 in
-          let hj = q .1 in
-          let none-up : (k : ℕ) → x .order < k → k ≤ 10 → lowest F free k ≡ none = λ k lo hk. not-there (lowest F free k) (λ s es.
-          let m : ℕ = x .order + 1 in
-          let pm : 2 ^ m ≤ 2 ^ w = pow-mono (omega arith) in
-          let f = wi .fits in
-          let sv : isServed F free left m ≡ true = at-served F free left m (omega arith) (at-serving F free m k s (omega arith) hk (lowest-at F free k s es)) in
-          true-false (isServed F free left m) sv (more m (omega arith) (omega arith))) in
-          let ji : j ≡ x .order = by-dec (decLt (x .order) j)
-          (λ up. none-some (x .start .0) (lowest F free j) (none-up j up hj) (p .1 .2))
-          (λ le. omega arith) in
-          (none-up, rw ji at (p .1 .2))
+      go : (o : Option ℕ) → o ≡ some i → Largest 10 (isServed F free left) o → (k : ℕ) → i < k → k ≤ 10 → lowest F free k ≡ none
+      go o oe (nothing n) k lo hk = none-some i none refl oe
+      go o oe (greatest j hi y more) k lo hk =
+          let ji : j ≡ i = cc in
+          not-there (lowest F free k) (λ s es.
+          let served = at-served F free left (i + 1) fits (at-serving F free (i + 1) k s (omega arith) hk (lowest-at F free k s es)) in
+          true-false (isServed F free left (i + 1)) served (more (i + 1) (omega arith) (omega arith)))
+
+  -- then the old choice is the first of its order
+  pub first-of-order : (left : ℕ) (x : Block) → x .order ≤ 10 → NoneAbove F free (x .order) → takeBlock F free none left ≡ some x → lowest F free (x .order) ≡ some (x .start .0)
+  unfolding NoneAbove
+  first-of-order left x small none-up e =
+      let q = cut-from left x e in
+      let j : ℕ = q .0 in
+      let s = serving-at F free (x .order) j small (q .1) in
+      let up : x .order ≤ j = s .0 in
+      let same : j ≡ x .order = by-dec (decLt (x .order) j)
+      (λ lt. none-some (x .start .0) (lowest F free j) (none-up j lt (s .1)) (q .2))
+      (λ le. omega arith) in
+      rw same at (q .2)
 
   -- what is known stays known when frames are taken
   pub stays : (i s : ℕ) (x : Bound) → Searched F free x → Searched F (without free i s) x
@@ -413,29 +413,47 @@ module _ (F : ℕ) (free : ℕ → Bool) where
           let here : BlockAt F free (x .limit) t = rw (st, same) at (q .3) in
           true-false (freeBlock F free (x .limit) t) (at-free-block F free (x .limit) t here) (known .before .none-at t ht))
 
--- the bound by cases, as the code decides it
+-- what is known then, by cases, as the code decides it
 
-pub bound-same : (x : Bound) (b : Block) (left : ℕ) → (b .order < 10 → left < 2 ^ (b .order + 1)) → x ≡ boundAfter x b left
-unfolding boundAfter
-bound-same x b left h =
-    by-dec (decLt (b .order) 10)
-    (λ lt. rw (and-false (ltb (b .order) 10) _ (lt-leb _ _ (h lt)), boundAfter))
-    (λ ge. rw (le-ltb (b .order) 10 (omega arith), boundAfter))
+module _ (x : Bound) (b : Block) (wish : ℕ) where
+  pub from-met : b .start .0 ≡ wish → scanFrom x (b .order) ≡ fromAfter x b wish
+  unfolding fromAfter
+  from-met e = rw (eq-eqb _ _ e, fromAfter)
 
-pub bound-down : (x : Bound) (b : Block) (left : ℕ) → b .order < 10 → 2 ^ (b .order + 1) ≤ left → record { limit = b .order; from = b .start } ≡ boundAfter x b left
-unfolding boundAfter
-bound-down x b left h fits = rw (lt-ltb _ _ h, le-leb _ _ fits, boundAfter)
+  pub from-old : (b .start .0 ≡ wish → ⊥) → endOf b ≡ fromAfter x b wish
+  unfolding fromAfter
+  from-old n = rw (ne-eqb _ _ n, fromAfter)
 
--- what the search that found the old choice has shown
-pub known-then : (F : ℕ) (free : ℕ → Bool) (left w : ℕ) (x : Bound) (b : Block) → orderWithin left ≡ some w → Searched F free x → takeBlock F free none left ≡ some b
-    → Searched F free (boundAfter x b left)
-unfolding NoneAbove
-known-then F free left w x b we known e =
-    let wi = within left w we in
-    by-dec (decLt (b .order) w)
-    (λ low.
-    let l = lower F free left w b wi e low in
-    let m : 2 ^ (b .order + 1) ≤ 2 ^ w = pow-mono (omega arith) in
-    rw (← bound-down x b left (omega (arith, wi .small)) (omega (arith, wi .fits)))
-    (record { small = omega (arith, wi .small); above = l .0; before = found-clear F free (b .order) (b .start .0) (l .1) }))
-    (λ high. rw (← bound-same x b left (λ lt. leb-false _ _ (wi .no-more (b .order + 1) (omega arith) (omega arith)))) known)
+  module _ (left : ℕ) where
+    pub bound-same : (b .order < 10 → left < 2 ^ (b .order + 1)) → x ≡ boundAfter x b wish left
+    unfolding boundAfter
+    bound-same h =
+        by-dec (decLt (b .order) 10)
+        (λ lt. rw (and-false (ltb (b .order) 10) _ (lt-leb _ _ (h lt)), boundAfter))
+        (λ ge. rw (le-ltb (b .order) 10 (omega arith), boundAfter))
+
+    pub bound-down : (from : ℕ) → b .order < 10 → 2 ^ (b .order + 1) ≤ left → from ≡ fromAfter x b wish → record { limit = b .order; from = record { 0 = from } } ≡ boundAfter x b wish left
+    unfolding boundAfter
+    bound-down from h fits e = rw (e, lt-ltb _ _ h, le-leb _ _ fits, boundAfter)
+
+-- what is known where no block of a larger order than that of block b is free
+module _ (F : ℕ) (free : ℕ → Bool) (b : Block) (small : b .order < 10) (none-up : NoneAbove F free (b .order)) where
+  -- the search for its order has come to f
+  pub known-to : (f : ℕ) → Clear F free (b .order) f → Searched F free (record { limit = b .order; from = record { 0 = f } })
+  unfolding NoneAbove
+  known-to f clear = record { small = omega arith; above = none-up; before = clear }
+
+  -- it is the lowest of its order, and is taken
+  pub known-behind : startOf (b .order) (b .start .0) ≡ b .start .0 → lowest F free (b .order) ≡ some (b .start .0)
+      → Searched F (without free (b .order) (b .start .0)) (record { limit = b .order; from = record { 0 = endOf b } })
+  known-behind st is =
+      let rest = stays F free (b .order) (b .start .0) _ (known-to (b .start .0) (found-clear F free (b .order) (b .start .0) is)) in
+      record { small = rest .small; above = rest .above; before = clear-more F (without free (b .order) (b .start .0)) (b .order) (b .start .0) (rest .before) st gone }
+    where
+      gone : freeBlock F (without free (b .order) (b .start .0)) (b .order) (b .start .0) ≡ false
+      gone =
+          by-test (freeBlock F (without free (b .order) (b .start .0)) (b .order) (b .start .0))
+          (λ t.
+          let whole = free-block-at F (without free (b .order) (b .start .0)) (b .order) (b .start .0) t .maximal .whole in
+          absurd (without-out free (b .order) (b .start .0) (b .start .0) st (around-at F (without free (b .order) (b .start .0)) (b .order) (b .start .0) whole (b .start .0) refl .1) refl))
+          (λ f. f)

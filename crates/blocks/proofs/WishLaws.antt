@@ -1,18 +1,23 @@
--- Which block is taken with a wished frame: the one at the wish where it is wholly free, else the old choice.
-use mathlib.Core.Path.{_≡_, refl, ap, _∙_, sym}
+-- Which block is taken with a wished frame: the one at the wish where it is wholly free, else the old choice; and what is known once it is taken.
+use mathlib.Core.Path.{_≡_, refl, ap, _∙_, sym, subst}
 use mathlib.Core.Bool.{Bool, true, false}
 use mathlib.Core.Option.{Option, none, some}
-use Prim.Native.Nat.{ℕ, _^_, _<_, _≤_}
+use Prim.Native.Nat.{ℕ, _+_, _^_, _<_, _≤_}
+use native.Mathlib.Decide.{decLt, decLe, ℕ-discrete}
 use native.Mathlib.Omega.{arith}
 use Rattle.words.specs.Searches.{largest}
-use Rattle.words.proofs.Cases.{by-test, none-some}
+use Rattle.words.proofs.Cases.{by-test, by-dec, none-some}
 use Rattle.words.proofs.SearchLaws.{Largest, greatest, nothing, largest-is, largest-unique}
 use Rattle.blocks.specs.declared.Block.{Block}
+use Rattle.blocks.specs.declared.Bound.{Bound}
 use Rattle.blocks.specs.Blocks.{block, whollyFree}
-use Rattle.blocks.specs.Choice.{serving, isServed, orderFor, oldChoice, takeOrder, takeBlock}
+use Rattle.blocks.specs.Choice.{serving, isServed, orderFor, oldChoice, takeOrder, takeBlock, endOf, without}
+use Rattle.blocks.specs.Inner.Around.{startOf}
+use Rattle.blocks.specs.Inner.Taking.{Searched}
+use Rattle.blocks.specs.Inner.Passes.{scanFrom, fromAfter, boundAfter}
 use Rattle.blocks.proofs.FreeBlockLaws.{whole-at, in-block-at}
 use Rattle.blocks.proofs.ChoiceLaws.{at-serving, at-served, order-met, order-not-met}
-use Rattle.blocks.proofs.SearchedLaws.{from-is}
+use Rattle.blocks.proofs.SearchedLaws.{NoneAbove, from-clear, from-is, none-larger, first-of-order, stays, from-met, from-old, bound-same, bound-down, known-to, known-behind}
 
 module _ (F : ℕ) (free : ℕ → Bool) where
   by-order : (wish : Option ℕ) (left i : ℕ) → orderFor F free left ≡ some i → takeBlock F free wish left ≡ takeOrder F free wish i
@@ -56,7 +61,7 @@ module _ (F : ℕ) (free : ℕ → Bool) where
   -- a block taken with a wish is of the order chosen, and starts at the wish or is the old choice
   pub data Taken (s left : ℕ) (x : Block) : Type 0 where
     at-wish : orderFor F free left ≡ some (x .order) → x .start .0 ≡ s → Taken s left x
-    as-old : orderFor F free left ≡ some (x .order) → takeBlock F free none left ≡ some x → Taken s left x
+    as-old : takeBlock F free none left ≡ some x → Taken s left x
 
   pub taken-is : (s left : ℕ) (x : Block) → takeBlock F free (some s) left ≡ some x → Taken s left x
   taken-is s left x e = go (orderFor F free left) refl
@@ -69,4 +74,43 @@ module _ (F : ℕ) (free : ℕ → Bool) where
           let same : some (block i s) ≡ some x = sym (wish-met s left i oe met) ∙ e in
           let is : block i s ≡ x = cc in
           at-wish (oe ∙ ap (λ (y : Block). some (y .order)) is) (sym (ap (λ (y : Block). y .start .0) is)))
-          (λ not-met. let old : takeBlock F free none left ≡ some x = sym (wish-not-met s left i oe not-met) ∙ e in as-old (old-order left x old) old)
+          (λ not-met. let old : takeBlock F free none left ≡ some x = sym (wish-not-met s left i oe not-met) ∙ e in as-old old)
+
+  pub taken-order : (s left : ℕ) (x : Block) → takeBlock F free (some s) left ≡ some x → orderFor F free left ≡ some (x .order)
+  taken-order s left x e = go (taken-is s left x e)
+    where
+      go : Taken s left x → orderFor F free left ≡ some (x .order)
+      go (at-wish o we) = o
+      go (as-old old) = old-order left x old
+
+-- what is known once a block was taken with a wish
+module _ (F : ℕ) (free : ℕ → Bool) (wish left : ℕ) (x : Bound) (b : Block) (known : Searched F free x) (e : takeBlock F free (some wish) left ≡ some b)
+    (st : startOf (b .order) (b .start .0) ≡ b .start .0) where
+  abbrev free′ : ℕ → Bool
+  free′ = without free (b .order) (b .start .0)
+
+  as-before : (b .order < 10 → left < 2 ^ (b .order + 1)) → Searched F free′ (boundAfter x b wish left)
+  as-before h = subst (Searched F free′) (bound-same x b wish left h) (stays F free (b .order) (b .start .0) x known)
+
+  module _ (small : b .order < 10) (fits : 2 ^ (b .order + 1) ≤ left) where
+    by-from : (from : ℕ) → from ≡ fromAfter x b wish → Searched F free′ (record { limit = b .order; from = record { 0 = from } }) → Searched F free′ (boundAfter x b wish left)
+    by-from from fe s = subst (Searched F free′) (bound-down x b wish left from small fits fe) s
+
+    none-above : NoneAbove F free (b .order)
+    none-above = none-larger F free left (b .order) (taken-order F free wish left b e) fits
+
+    behind-old : (b .start .0 ≡ wish → ⊥) → Taken F free wish left b → Searched F free′ (boundAfter x b wish left)
+    behind-old ne (at-wish o we) = absurd (ne we)
+    behind-old ne (as-old old) = by-from (endOf b) (from-old x b wish ne) (known-behind F free b small none-above st (first-of-order F free left b (omega arith) none-above old))
+
+    lowered : Taken F free wish left b → Searched F free′ (boundAfter x b wish left)
+    lowered t =
+        by-dec (ℕ-discrete (b .start .0) wish)
+        (λ met. by-from (scanFrom x (b .order)) (from-met x b wish met) (stays F free (b .order) (b .start .0) _ (known-to F free b small none-above _ (from-clear F free x (b .order) _ known refl))))
+        (λ ne. behind-old ne t)
+
+  pub known-after : Searched F free′ (boundAfter x b wish left)
+  known-after =
+      by-dec (decLt (b .order) 10)
+      (λ lt. by-dec (decLe (2 ^ (b .order + 1)) left) (λ fits. lowered lt fits (taken-is F free wish left b e)) (λ over. as-before (λ _. omega arith)))
+      (λ ge. as-before (λ lt. absurd (omega arith)))

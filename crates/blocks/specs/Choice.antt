@@ -1,8 +1,9 @@
 -- Which blocks a request takes. Document 01, Frames, second paragraph, and document 02, Change 6. "The search over orders stops at the first order that serves": `largest` and `firstFrom` stop at the first that passes.
+use mathlib.Core.Path.{_≡_}
 use mathlib.Core.Bool.{Bool, true, false, _&&_, not}
 use mathlib.Core.List.{List, [], _∷_, _++_}
 use mathlib.Core.Option.{Option, none, some}
-use Prim.Native.Nat.{ℕ, zero, suc, _+_, _-_, _^_}
+use Prim.Native.Nat.{ℕ, zero, suc, _+_, _-_, _^_, _<_}
 use lib.Dec.{leb, ltb}
 use lib.ListN.{length}
 use Rattle.words.specs.Tables.{tabFrom}
@@ -92,3 +93,7 @@ blockCount F free wish n = length (blocksFor F free wish n)
 -- the wish that a number says, where the pool is told one: a number that names no frame of the pool is no wish
 unfoldable pub wishOf : ℕ → ℕ → Option ℕ
 wishOf F w = elim (ltb w F) [ true ↦ some w | false ↦ none ]
+
+-- the frame before the wish is not free: so no free block begins before the wish and holds it. A preview asks that of its wish
+pub record HeldBefore (F : ℕ) (free : ℕ → Bool) (wish : ℕ) : Type 0 where
+  pub held : (f : ℕ) → wish ≡ f + 1 → wish < F → free f ≡ false

@@ -39,11 +39,10 @@ pub struct Bound {
     pub from: Frame,
 }
 
-// A block, the order of the free block in which it lies, and what is known for the next search; the search itself leaves that as it was.
+// A block, and the order of the free block in which it lies.
 pub struct Cut {
     pub block: Block,
     pub top: u32,
-    pub known: Bound,
 }
 
 // The block chosen, and what is known for the next search.

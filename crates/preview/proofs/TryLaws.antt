@@ -11,7 +11,7 @@ use Rattle.words.specs.Rows.{refusal, values, numberOf}
 use Rattle.words.specs.Counts.{count}
 use Rattle.words.proofs.Cases.{by-test}
 use Rattle.blocks.specs.FrameWords.{ownersOf, freeOf, freeIn, lawful}
-use Rattle.blocks.specs.Choice.{framesFor, blockCount}
+use Rattle.blocks.specs.Choice.{framesFor, blockCount, HeldBefore}
 use Rattle.blocks.proofs.Published.{free-says, lawful-facts}
 use Rattle.runs.specs.PageWords.{mapped, frameIn, allowedRights}
 use Rattle.runs.specs.Runs.{rangeCount}
@@ -27,7 +27,7 @@ use Rattle.layout.proofs.SpaceLaws.{lent-part}
 use Rattle.layout.proofs.PlainLaws.{sound-valid}
 use Rattle.layout.proofs.CallLaws.{Mapping, pool-lawful, pool-enough}
 use Rattle.layout.proofs.PreviewLaws.{preview-done}
-use Rattle.steps.specs.Inner.{wishNumber, HeldBefore}
+use Rattle.steps.specs.Inner.{wishNumber}
 
 -- in sound tables the frame before the wish is held: by the page before the span
 module _ (T : Tables) (v : Valid (plainOf T)) (F s : ℕ) (hs : s ≤ 3) (small : F ≤ 4096) where
@@ -37,20 +37,20 @@ module _ (T : Tables) (v : Valid (plainOf T)) (F s : ℕ) (hs : s ≤ 3) (small 
       let o : ownersOf (T .frames) f ≡ 1 + 1024 * s + p = ap (ownersOf (T .frames)) (sym e) ∙ v .to-frame s p hs hp m .1 in
       by-test (freeOf (ownersOf (T .frames)) f) (λ t. let z = free-says (ownersOf (T .frames)) f t in absurd (omega arith)) (λ t. t)
 
-  held-before : (first : ℕ) → first ≤ 1024 → HeldBefore F (T .frames) (wishNumber (wishBefore (spacePages (T .pages) s) first))
+  held-before : (first : ℕ) → first ≤ 1024 → HeldBefore F (freeIn (T .frames)) (wishNumber (wishBefore (spacePages (T .pages) s) first))
   unfolding wishBefore wishPast wishNumber
   held-before zero h = record { held = λ f e lt. absurd (omega arith) }
   held-before (suc p) h = go (mapped (getD (spacePages (T .pages) s) p 0)) refl
     where
       go : (there : Bool) → mapped (getD (spacePages (T .pages) s) p 0) ≡ there
-          → HeldBefore F (T .frames) (wishNumber (elim there [ true ↦ some (frameIn (getD (spacePages (T .pages) s) p 0) + 1) | false ↦ none ]))
+          → HeldBefore F (freeIn (T .frames)) (wishNumber (elim there [ true ↦ some (frameIn (getD (spacePages (T .pages) s) p 0) + 1) | false ↦ none ]))
       go true m = record { held = λ f e lt. page-held p f (omega arith) m (omega arith) }
       go false m = record { held = λ f e lt. absurd (omega arith) }
 
 -- the try in a copy
 module _ (ws xs : List ℕ) (xe : xs ≡ ws) where
-  pub copy-held : (F : ℕ) (b : List ℕ) (first : ℕ) → HeldBefore F b (wishNumber (wishBefore ws first)) → HeldBefore F b (wishNumber (wishBefore xs first))
-  copy-held F b first h = rw xe h
+  pub copy-held : (F : ℕ) (free : ℕ → Bool) (first : ℕ) → HeldBefore F free (wishNumber (wishBefore ws first)) → HeldBefore F free (wishNumber (wishBefore xs first))
+  copy-held F free first h = rw xe h
 
   pub copy-cost : (F : ℕ) (free : ℕ → Bool) (first n rights m k : ℕ)
       → (m ≡ blockCount F free (wishBefore xs first) n) × (k ≡ rangeCount (rangeWords (mapWords xs first n rights (framesFor F free (wishBefore xs first) n))))
@@ -68,7 +68,7 @@ module _ (T : Tables) (F s first n rights : ℕ) (fe : F ≡ poolSize (T .contro
 
   pub try-asks : Mapping T s first n rights
       → (lawful F (T .frames) ≡ true)
-      × ((length lent ≡ 1024) × (HeldBefore F (T .frames) (wishNumber (wishBefore lent first)) × ((n ≤ count F (freeIn (T .frames))) × ((first + n ≤ 1024) × (allowedRights rights ≡ true)))))
+      × ((length lent ≡ 1024) × (HeldBefore F (freeIn (T .frames)) (wishNumber (wishBefore lent first)) × ((n ≤ count F (freeIn (T .frames))) × ((first + n ≤ 1024) × (allowedRights rights ≡ true)))))
   try-asks q =
       let w = q .spans in
       let lw = pool-lawful T F s first n rights fe q in

@@ -5,7 +5,7 @@ ghost use Prim.Native.Nat.{_+_, _≤_};
 ghost use lib.ListN.{length};
 ghost use Rattle.words.specs.Counts.{count};
 ghost use Rattle.blocks.specs.FrameWords.{lawful, freeIn};
-ghost use Rattle.blocks.specs.Choice.{framesFor, blockCount};
+ghost use Rattle.blocks.specs.Choice.{framesFor, blockCount, HeldBefore};
 ghost use Rattle.runs.specs.PageWords.{pagesInSpace, allowedRights};
 ghost use Rattle.runs.specs.Runs.{rangeCount};
 ghost use Rattle.runs.specs.Walk.{rangeWords};
@@ -13,7 +13,7 @@ ghost use Rattle.layout.specs.declared.TableCall.the-variants.{Preview};
 ghost use Rattle.layout.specs.Answers.{outcome};
 ghost use Rattle.layout.specs.Tables.{tables};
 ghost use Rattle.layout.specs.Changes.{wishBefore, mapWords};
-ghost use Rattle.steps.specs.Inner.{wishNumber, HeldBefore};
+ghost use Rattle.steps.specs.Inner.{wishNumber};
 ghost use Rattle.layout.specs.Calls.{Called};
 use layout::Answer;
 use refusals::judge_map;
@@ -38,7 +38,7 @@ fn copied(part: &[u32]) -> [u32; PAGE_WORDS]
 fn try_map(frames: &[u32], part: &[u32], pool: u32, first: Page, n: u32, rights: u32) -> Cost
     requires { ⌜ lawful pool (now frames) ≡ true ⌝ }
     requires { ⌜ length (now part) ≡ pagesInSpace ⌝ }
-    requires { ⌜ HeldBefore pool (now frames) (wishNumber (wishBefore (now part) (first .0))) ⌝ }
+    requires { ⌜ HeldBefore pool (freeIn (now frames)) (wishNumber (wishBefore (now part) (first .0))) ⌝ }
     requires { ⌜ n ≤ count pool (freeIn (now frames)) ⌝ }
     requires { ⌜ first .0 + n ≤ pagesInSpace ⌝ }
     requires { ⌜ allowedRights rights ≡ true ⌝ }

@@ -8,10 +8,11 @@ ghost use Rattle.blocks.specs.Blocks.{largestOrder, block};
 ghost use Rattle.blocks.specs.FrameWords.{frameBufferWords, largestPool, lawful};
 ghost use Rattle.blocks.specs.Inner.Around.{startOf};
 ghost use Rattle.blocks.specs.Inner.Taking.{nothingKnown};
-ghost use Rattle.blocks.specs.Inner.Passes.{orderWithin, TopOrder, orderAt, least, scanFrom, boundAfter};
+ghost use Rattle.blocks.specs.Inner.Passes.{orderWithin, TopOrder, orderAt, least, scanFrom, fromAfter, boundAfter};
 ghost use Rattle.blocks.specs.Inner.Marks.{goneAt, startsBy, Finds, Wished, Chooses};
 use blocks::Block;
 use blocks::Bound;
+use blocks::Chosen;
 use blocks::Cut;
 use blocks::FREE_FIRST;
 use blocks::Frame;
@@ -91,7 +92,7 @@ pub fn mark_at(marks: &[u32], k: u32) -> u32
 }
 
 // Whether the free block that starts at s in the words lent is left no more.
-pub fn is_gone(marks: &[u32], s: Frame) -> bool
+fn is_gone(marks: &[u32], s: Frame) -> bool
     requires { ⌜ s .0 < largestPool ⌝ }
     ensures { λ r. ⌜ r ≡ goneAt (now (marks .entry)) (s .0) ⌝ }
 {
@@ -164,15 +165,13 @@ fn wished(frames: &[u32], pool: u32, wish: Frame, k: u32, marks: &[u32]) -> u32
 }
 
 // The block of this order at s, in the free block of order `top`.
-fn cut_at(s: Frame, order: u32, top: u32, known: Bound) -> Cut
+fn cut_at(s: Frame, order: u32, top: u32) -> Cut
     ensures { λ r. ⌜ r .block ≡ block order (s .0) ⌝ }
     ensures { λ r. ⌜ r .top ≡ top ⌝ }
-    ensures { λ r. ⌜ r .known ≡ known ⌝ }
 {
     Cut {
         block: Block { start: s, order },
         top,
-        known,
     }
 }
 
@@ -194,16 +193,14 @@ fn search(frames: &[u32], pool: u32, top: u32, known: Bound, marks: &[u32]) -> C
             let first = start_of(from, k);
             let mut f = first.0;
             while f < pool {
-                if frames[f as usize] == FREE_FIRST + k {
-                    let gone = is_gone(marks, Frame(f));
-                    if !gone {
-                        break 'search cut_at(Frame(f), order, k, known);
-                    }
+                let starts = starts_by(frames, marks, Frame(f), k);
+                if starts {
+                    break 'search cut_at(Frame(f), order, k);
                 }
                 f += size;
             }
         }
-        break cut_at(Frame(0), ORDERS, 0, known);
+        break cut_at(Frame(0), ORDERS, 0);
     };
     found
 }
@@ -220,23 +217,18 @@ pub fn choose(frames: &[u32], pool: u32, wish: Frame, left: u32, known: Bound, m
     let top = top_order(left, limit);
     let high = wished(frames, pool, wish, top, marks);
     if high < ORDERS {
-        return cut_at(wish, top, high, known);
+        return cut_at(wish, top, high);
     }
     let old = search(frames, pool, top, known, marks);
     let b = old.block;
     let order = b.order;
-    let then = bound_after(known, b, left);
     if order < top {
         let low = wished(frames, pool, wish, order, marks);
         if low < ORDERS {
-            return cut_at(wish, order, low, then);
+            return cut_at(wish, order, low);
         }
     }
-    Cut {
-        block: b,
-        top: old.top,
-        known: then,
-    }
+    old
 }
 
 // What is known before the first search.
@@ -249,20 +241,47 @@ pub fn nothing_known() -> Bound
     }
 }
 
-// What is known once block `b` was found as the old choice with `left` pages left.
-fn bound_after(known: Bound, b: Block, left: u32) -> Bound
-    ensures { λ r. ⌜ r ≡ boundAfter known b left ⌝ }
+// The frame from which the next scan for this order starts, once its block at `start` is taken and no larger one is left.
+fn from_after(known: Bound, start: Frame, order: u32, wish: Frame) -> Frame
+    requires { ⌜ order ≤ largestOrder ⌝ }
+    requires { ⌜ start .0 ≤ largestPool ⌝ }
+    ensures { λ r. ⌜ r .0 ≡ fromAfter known (block order (start .0)) (wish .0) ⌝ }
 {
-    let order = b.order;
+    // Taken for the wish, it need not be the lowest.
+    if start.0 == wish.0 {
+        return scan_from(known, order);
+    }
+    Frame(start.0 + size_of(order))
+}
+
+// What is known once the block of this order at `start` is taken with this wish while `left` pages are left.
+fn bound_after(known: Bound, start: Frame, order: u32, wish: Frame, left: u32) -> Bound
+    requires { ⌜ start .0 ≤ largestPool ⌝ }
+    ensures { λ r. ⌜ r ≡ boundAfter known (block order (start .0)) (wish .0) left ⌝ }
+{
     if order < 10 {
         // A block twice as large would fit: so none is left.
         if size_of(order + 1) <= left {
-            let start = b.start;
-            return Bound {
-                limit: order,
-                from: start,
-            };
+            let from = from_after(known, start, order, wish);
+            return Bound { limit: order, from };
         }
     }
     known
+}
+
+// The block of the cut, taken with this wish while `left` pages are left, and what is known then.
+pub fn chosen_by(cut: Cut, wish: Frame, left: u32, known: Bound) -> Chosen
+    requires { ⌜ cut .block .start .0 ≤ largestPool ⌝ }
+    ensures { λ r. ⌜ r .block ≡ cut .block ⌝ }
+    ensures { λ r. ⌜ r .known ≡ boundAfter known (cut .block) (wish .0) left ⌝ }
+{
+    // Start and order are handed on one by one: a copy of the whole block, just after each was written by itself, makes the processor wait.
+    let b = cut.block;
+    let start = b.start;
+    let order = b.order;
+    let then = bound_after(known, start, order, wish, left);
+    Chosen {
+        block: Block { start, order },
+        known: then,
+    }
 }

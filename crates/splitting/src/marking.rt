@@ -1,12 +1,12 @@
 // Choosing blocks and taking none: marks say which are chosen already, and the frame words stay as they are.
 ghost use mathlib.Core.Path.{_≡_};
-ghost use mathlib.Core.Bool.{true};
+ghost use mathlib.Core.Bool.{true, false};
 ghost use Prim.Native.Nat.{_<_, _≤_};
 ghost use lib.ListN.{length};
 ghost use Rattle.blocks.specs.FrameWords.{largestPool, lawful};
-ghost use Rattle.blocks.specs.Inner.Marks.{markWords, GoneMarked, CutMarked, Previewed, BlockMarked};
+ghost use Rattle.blocks.specs.Inner.Marks.{markWords, goneAt, GoneMarked, CutMarked, Previewed, BlockMarked};
 use crate::choosing::choose;
-use crate::choosing::is_gone;
+use crate::choosing::chosen_by;
 use crate::choosing::mark_at;
 use crate::choosing::order_within;
 use blocks::Block;
@@ -19,14 +19,12 @@ use blocks::Frame;
 fn mark_gone(marks: &mut [u32], s: Frame)
     requires { ⌜ length (now marks) ≡ markWords ⌝ }
     requires { ⌜ s .0 < largestPool ⌝ }
+    requires { ⌜ goneAt (now marks) (s .0) ≡ false ⌝ }
     ensures { λ _. ⌜ GoneMarked (now (marks .entry)) (s .0) (now (marks .exit)) ⌝ }
 {
-    let gone = is_gone(marks, s);
-    if !gone {
-        let at = s.0;
-        let word = (1 + at / 32) as usize;
-        marks[word] = marks[word] + (1u32 << (at % 32));
-    }
+    let at = s.0;
+    let word = (1 + at / 32) as usize;
+    marks[word] = marks[word] + (1u32 << (at % 32));
 }
 
 // Marks that the block of the cut is chosen.
@@ -34,12 +32,14 @@ fn mark_cut(marks: &mut [u32], cut: Cut)
     requires { ⌜ length (now marks) ≡ markWords ⌝ }
     requires { ⌜ cut .block .order ≤ cut .top ⌝ }
     requires { ⌜ cut .block .start .0 < largestPool ⌝ }
+    requires { ⌜ (cut .block .order ≡ cut .top → goneAt (now marks) (cut .block .start .0) ≡ false) ⌝ }
     ensures { λ _. ⌜ CutMarked (now (marks .entry)) (cut .block .start .0) (cut .block .order) (cut .top) (now (marks .exit)) ⌝ }
 {
     let b = cut.block;
+    let start = b.start;
     let order = b.order;
     if order == cut.top {
-        mark_gone(marks, b.start);
+        mark_gone(marks, start);
         return;
     }
     // What is left above the block is more than the pages that are left: they all come from there.
@@ -71,10 +71,5 @@ pub fn mark_block(
     }
     let cut = choose(frames, pool, wish, left, known, marks);
     mark_cut(marks, cut);
-    let b = cut.block;
-    let then = cut.known;
-    Chosen {
-        block: b,
-        known: then,
-    }
+    chosen_by(cut, wish, left, known)
 }

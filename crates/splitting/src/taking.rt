@@ -11,6 +11,7 @@ ghost use Rattle.blocks.specs.Inner.Around.{startOf, otherHalf};
 ghost use Rattle.blocks.specs.Inner.Taking.{Searched, BlockTaken, FramesTaken};
 ghost use Rattle.blocks.specs.Inner.Passes.{Halved, PartOf, handed};
 use crate::choosing::choose;
+use crate::choosing::chosen_by;
 use crate::choosing::nothing_known;
 use blocks::Block;
 use blocks::Bound;
@@ -90,9 +91,7 @@ pub fn take_block(
     let nothing_taken = [0u32; 1];
     let cut = choose(frames, pool, wish, left, known, &nothing_taken);
     take_at(frames, pool, cut, owner);
-    let block = cut.block;
-    let known = cut.known;
-    Chosen { block, known }
+    chosen_by(cut, wish, left, known)
 }
 
 // The frame after a block, which is the wish of the next one.

@@ -6,14 +6,14 @@ use mathlib.Core.Option.{Option, none, some}
 use Prim.Native.Nat.{ℕ, zero, suc, _+_, _-_, _<_, _≤_}
 use native.Mathlib.Omega.{arith}
 use lib.ListN.{length, getD}
-use Rattle.blocks.specs.Choice.{framesOf, blocksFor, framesFor, blockCount}
+use Rattle.blocks.specs.Choice.{framesOf, blocksFor, framesFor, blockCount, HeldBefore}
 use Rattle.blocks.specs.FrameWords.{frameWords}
 use Rattle.blocks.specs.Owners.{give}
 use Rattle.blocks.proofs.Published.{blocks-past}
 use Rattle.runs.specs.PageWords.{mapped, frameIn}
 use Rattle.runs.proofs.WordLaws.{frame-lt}
 use Rattle.layout.specs.Changes.{wishPast, wishBefore, mapWords}
-use Rattle.steps.specs.Inner.{wishNumber, HeldBefore}
+use Rattle.steps.specs.Inner.{wishNumber}
 
 -- the number serves as the wish does
 module _ (F : ℕ) (free : ℕ → Bool) (n : ℕ) (small : F ≤ 4096) where
@@ -38,8 +38,8 @@ module _ (fs gs : List ℕ) (e : fs ≡ gs) where
   pub mapped-same : (ws : List ℕ) (first n rights : ℕ) (xs : List ℕ) → xs ≡ mapWords ws first n rights fs → xs ≡ mapWords ws first n rights gs
   mapped-same ws first n rights xs w = w ∙ ap (mapWords ws first n rights) e
 
-pub held-at : (F : ℕ) (b : List ℕ) (v w : ℕ) → w ≡ v → HeldBefore F b v → HeldBefore F b w
-held-at F b v w e h = subst (HeldBefore F b) (sym e) h
+pub held-at : (F : ℕ) (free : ℕ → Bool) (v w : ℕ) → w ≡ v → HeldBefore F free v → HeldBefore F free w
+held-at F free v w e h = subst (HeldBefore F free) (sym e) h
 
 pub frame-fits : (w f : ℕ) → f ≡ frameIn w → f < 4096
 frame-fits w f e = omega (arith, frame-lt w)

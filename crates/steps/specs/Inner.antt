@@ -1,9 +1,8 @@
 -- What the steps that alter pages promise, said of one space: ws are its page words, ws′ and rs′ the page words and range words left.
 use mathlib.Core.Path.{_≡_}
-use mathlib.Core.Bool.{false}
 use mathlib.Core.List.{List}
 use mathlib.Core.Option.{Option, none, some}
-use Prim.Native.Nat.{ℕ, _+_, _<_}
+use Prim.Native.Nat.{ℕ}
 use Rattle.blocks.specs.FrameWords.{largestPool, ownersOf, freeIn, frameWords}
 use Rattle.blocks.specs.Choice.{framesFor, blockCount}
 use Rattle.blocks.specs.Owners.{give}
@@ -21,10 +20,6 @@ pub record MapStep (F : ℕ) (b ws : List ℕ) (o first n rights r : ℕ) (b′ 
 unfoldable pub wishNumber : Option ℕ → ℕ
 wishNumber none = largestPool
 wishNumber (some s) = s
-
--- the frame before a wish is held: by the page before the span
-pub record HeldBefore (F : ℕ) (b : List ℕ) (wish : ℕ) : Type 0 where
-  pub held : (f : ℕ) → wish ≡ f + 1 → wish < F → freeIn b f ≡ false
 
 -- n pages from `first` on unmapped
 pub record UnmapStep (ws : List ℕ) (first n r : ℕ) (ws′ rs′ : List ℕ) : Type 0 where

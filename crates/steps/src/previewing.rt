@@ -6,12 +6,12 @@ ghost use Prim.Native.Nat.{_+_, _≤_};
 ghost use lib.ListN.{length};
 ghost use Rattle.words.specs.Counts.{count};
 ghost use Rattle.blocks.specs.FrameWords.{freeIn, lawful};
-ghost use Rattle.blocks.specs.Choice.{framesFor, blockCount};
+ghost use Rattle.blocks.specs.Choice.{framesFor, blockCount, HeldBefore};
 ghost use Rattle.runs.specs.PageWords.{pagesInSpace, allowedRights};
 ghost use Rattle.runs.specs.Runs.{rangeCount};
 ghost use Rattle.runs.specs.Walk.{rangeWords};
 ghost use Rattle.layout.specs.Changes.{wishBefore, mapWords};
-ghost use Rattle.steps.specs.Inner.{wishNumber, HeldBefore};
+ghost use Rattle.steps.specs.Inner.{wishNumber};
 use crate::mapping::wish_before;
 use crate::mapping::write_block;
 use blocks::Frame;
@@ -37,7 +37,7 @@ fn preview_blocks(
 ) -> u32
     requires { ⌜ lawful pool (now frames) ≡ true ⌝ }
     requires { ⌜ length (now part) ≡ pagesInSpace ⌝ }
-    requires { ⌜ HeldBefore pool (now frames) (wish .0) ⌝ }
+    requires { ⌜ HeldBefore pool (freeIn (now frames)) (wish .0) ⌝ }
     requires { ⌜ n ≤ count pool (freeIn (now frames)) ⌝ }
     requires { ⌜ first .0 + n ≤ pagesInSpace ⌝ }
     requires { ⌜ allowedRights rights ≡ true ⌝ }
@@ -80,7 +80,7 @@ pub fn preview_space(
 ) -> Cost
     requires { ⌜ lawful pool (now frames) ≡ true ⌝ }
     requires { ⌜ length (now part) ≡ pagesInSpace ⌝ }
-    requires { ⌜ HeldBefore pool (now frames) (wishNumber (wishBefore (now part) (first .0))) ⌝ }
+    requires { ⌜ HeldBefore pool (freeIn (now frames)) (wishNumber (wishBefore (now part) (first .0))) ⌝ }
     requires { ⌜ n ≤ count pool (freeIn (now frames)) ⌝ }
     requires { ⌜ first .0 + n ≤ pagesInSpace ⌝ }
     requires { ⌜ allowedRights rights ≡ true ⌝ }

@@ -13,7 +13,7 @@ use Rattle.blocks.specs.declared.Chosen.{Chosen}
 use Rattle.blocks.specs.declared.Cut.{Cut}
 use Rattle.blocks.specs.Blocks.{largestOrder, whollyFree}
 use Rattle.blocks.specs.FrameWords.{largestPool, freeIn, firstOf, lawful}
-use Rattle.blocks.specs.Choice.{takeBlock, endOf}
+use Rattle.blocks.specs.Choice.{takeBlock, endOf, HeldBefore}
 use Rattle.blocks.specs.Inner.Around.{startOf}
 use Rattle.blocks.specs.Inner.Taking.{Searched, BlockTaken}
 use Rattle.blocks.specs.Inner.Passes.{orderWithin, least, asBlock}
@@ -50,12 +50,11 @@ pub record Wished (F : ℕ) (b m : List ℕ) (wish k r : ℕ) : Type 0 where
   pub met : (w : List ℕ) → Stands F b m w → r ≤ largestOrder → (whollyFree F (freeIn w) k wish ≡ true) × (k ≤ r) × (startOf r wish < F) × (getD w (startOf r wish) 0 ≡ firstOf r)
   pub not-met : (w : List ℕ) → Stands F b m w → largestOrder < r → whollyFree F (freeIn w) k wish ≡ false
 
--- whatever words the marks stand for: the block that the rule takes of them with this wish is a part of the free block of order top around it, and what is known then holds of them
+-- whatever words the marks stand for: r is the block that the rule takes of them with this wish, or order 11 for none, and a part of the free block of order r .top around it
 pub record Chooses (F : ℕ) (b m : List ℕ) (wish left : ℕ) (known : Bound) (r : Cut) : Type 0 where
   pub block : (w : List ℕ) → Stands F b m w → Searched F (freeIn w) known → r .block ≡ asBlock (takeBlock F (freeIn w) (some wish) left)
   pub first : (w : List ℕ) → Stands F b m w → Searched F (freeIn w) known → r .block .order ≤ largestOrder
       → (r .block .order ≤ r .top) × (startOf (r .top) (r .block .start .0) < F) × (getD w (startOf (r .top) (r .block .start .0)) 0 ≡ firstOf (r .top))
-  pub searched : (w : List ℕ) → Stands F b m w → Searched F (freeIn w) known → Searched F (freeIn w) (r .known)
 
 -- the block of some order at the wish is wholly free, and has at least as many frames as pages are left: all of them come from it
 pub record Ahead (F : ℕ) (free : ℕ → Bool) (wish left : ℕ) : Type 0 where
@@ -63,13 +62,9 @@ pub record Ahead (F : ℕ) (free : ℕ → Bool) (wish left : ℕ) : Type 0 wher
   pub whole : whollyFree F free order wish ≡ true
   pub enough : left ≤ 2 ^ order
 
--- the frame before the wish is not free: so no free block begins before the wish and holds it
-pub record Behind (F : ℕ) (free : ℕ → Bool) (wish : ℕ) : Type 0 where
-  pub taken : (p : ℕ) → wish ≡ p + 1 → wish < F → free p ≡ false
-
 -- the marks are of a map that would have the words w by now and so many pages left. A block that is cut from a larger one leaves more above it than pages are left: then only that is marked
 pub record Marking (F : ℕ) (b m w : List ℕ) (wish left : ℕ) : Type 0 where
-  pub behind : Behind F (freeIn w) wish
+  pub before : HeldBefore F (freeIn w) wish
   pub lawful : lawful F w ≡ true
   pub ahead : (aheadOf m ≡ 0 → ⊥) → 1 ≤ left → Ahead F (freeIn w) wish left
   pub stands : aheadOf m ≡ 0 → Stands F b m w

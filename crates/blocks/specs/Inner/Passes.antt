@@ -14,6 +14,7 @@ use Rattle.blocks.specs.declared.Bound.{Bound}
 use Rattle.blocks.specs.Blocks.{largestOrder, orders, block, inBlock}
 use Rattle.blocks.specs.FrameWords.{ownersOf, freeIn, ownedIn, firstOf, frameWord}
 use Rattle.blocks.specs.Owners.{cleared}
+use Rattle.blocks.specs.Choice.{endOf}
 use Rattle.blocks.specs.Inner.Around.{startOf, around, otherHalf}
 
 -- Settling and checking, block after block
@@ -73,9 +74,13 @@ asBlock (some b) = b
 unfoldable pub scanFrom : Bound → ℕ → ℕ
 scanFrom x k = elim (eqb k (x .limit)) [ true ↦ x .from .0 | false ↦ 0 ]
 
--- what is known once block b was found as the old choice with so many pages left: where a block of the next order fits too, b is the first of the largest order that is left
-unfoldable pub boundAfter : Bound → Block → ℕ → Bound
-boundAfter x b left = elim (ltb (b .order) largestOrder && leb (2 ^ (b .order + 1)) left) [ true ↦ record { limit = b .order; from = b .start } | false ↦ x ]
+-- the frame from which the next scan for the order of block b starts, where no larger free block is left: behind b where it lies elsewhere than at the wish, for then it was the lowest; at the wish it need not be, so where the scan would have started before
+unfoldable pub fromAfter : Bound → Block → ℕ → ℕ
+fromAfter x b wish = elim (eqb (b .start .0) wish) [ true ↦ scanFrom x (b .order) | false ↦ endOf b ]
+
+-- what is known once block b is taken with this wish while so many pages are left: where a block of the next order fits too, none of a larger order is free
+unfoldable pub boundAfter : Bound → Block → ℕ → ℕ → Bound
+boundAfter x b wish left = elim (ltb (b .order) largestOrder && leb (2 ^ (b .order + 1)) left) [ true ↦ record { limit = b .order; from = record { 0 = fromAfter x b wish } } | false ↦ x ]
 
 -- Taking
 

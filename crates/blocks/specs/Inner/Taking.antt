@@ -1,4 +1,4 @@
--- Taking one block after another: "Blocks go to ascending pages until none are left." Each step takes one block, and hands on what its search has shown.
+-- Taking one block after another: "Blocks go to ascending pages until none are left." Each step takes one block, and hands on what is known once it is taken.
 use mathlib.Core.Path.{_≡_}
 use mathlib.Core.Bool.{Bool, false}
 use mathlib.Core.List.{List, [], _∷_}

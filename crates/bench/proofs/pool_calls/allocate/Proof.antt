@@ -11,8 +11,8 @@ cast-n c = search needs
 returns : tie.Need-returns
 returns c = search needs
 
-array-borrow-prefix-out : tie.Need-array-borrow-prefix-out
-array-borrow-prefix-out c = search needs
+slice-relend-prefix-allocate : tie.Need-slice-relend-prefix-allocate
+slice-relend-prefix-allocate c = search needs
 
 slice-aggregate-allocate : tie.Need-slice-aggregate-allocate
 slice-aggregate-allocate c = sym (length-take-le _ _ (omega arith))
@@ -23,6 +23,9 @@ allocate-requires c κs = search needs
 same-length : tie.Need-same-length
 same-length c = search needs
 
+same-length-2 : tie.Need-same-length-2
+same-length-2 c = search needs
+
 returns-2 : tie.Need-returns-2
 returns-2 c = search needs
 
@@ -32,8 +35,9 @@ allocate-spec =
     (tie.spec
     cast-n
     returns
-    array-borrow-prefix-out
+    slice-relend-prefix-allocate
     slice-aggregate-allocate
     allocate-requires
     same-length
+    same-length-2
     returns-2)

@@ -6,11 +6,16 @@ use Rattle.bench.proofs.table_check.hundred.Statement.{statement}
 use Rattle.bench.proofs.table_check.hundred.Tie as tie
 
 abbrev Inv-loop : tie.InvT-loop
-Inv-loop control₀ frames pages ranges start counter₀ control counter =
-    (length control ≡ length control₀) × (counter ≤ 100)
+Inv-loop control₀ frames pages ranges first same₀ start counter₀ control same counter = (length control ≡ length control₀) × (counter ≤ 100)
 
 abbrev μ-loop : tie.MeasureT-loop
-μ-loop control₀ frames pages ranges start counter₀ control counter = 100 - counter
+μ-loop control₀ frames pages ranges first same₀ start counter₀ control same counter = 100 - counter
+
+open-requires : tie.Need-open-requires Inv-loop μ-loop
+open-requires c κs = search needs
+
+outcome-requires : tie.Need-outcome-requires Inv-loop μ-loop
+outcome-requires c κs = search needs
 
 used-requires : tie.Need-used-requires Inv-loop μ-loop
 used-requires c κs = search needs
@@ -18,8 +23,14 @@ used-requires c κs = search needs
 loop-holds : tie.Need-loop-holds Inv-loop μ-loop
 loop-holds c = search needs
 
-open-requires : tie.Need-open-requires Inv-loop μ-loop
-open-requires c κs = search needs
+open-requires-2 : tie.Need-open-requires-2 Inv-loop μ-loop
+open-requires-2 c κs = search needs
+
+outcome-requires-2 : tie.Need-outcome-requires-2 Inv-loop μ-loop
+outcome-requires-2 c κs = search needs
+
+alike-requires : tie.Need-alike-requires Inv-loop μ-loop
+alike-requires c κs = search needs
 
 add-counter : tie.Need-add-counter Inv-loop μ-loop
 add-counter c = search needs
@@ -30,8 +41,8 @@ loop-less c = search needs
 loop-again : tie.Need-loop-again Inv-loop μ-loop
 loop-again c = search needs
 
-since-requires : tie.Need-since-requires Inv-loop μ-loop
-since-requires c κs = search needs
+since-if-requires : tie.Need-since-if-requires Inv-loop μ-loop
+since-if-requires c κs = search needs
 
 same-length : tie.Need-same-length Inv-loop μ-loop
 same-length c = search needs
@@ -45,12 +56,16 @@ hundred-spec =
     (tie.spec
     Inv-loop
     μ-loop
+    open-requires
+    outcome-requires
     used-requires
     loop-holds
-    open-requires
+    open-requires-2
+    outcome-requires-2
+    alike-requires
     add-counter
     loop-less
     loop-again
-    since-requires
+    since-if-requires
     same-length
     returns)

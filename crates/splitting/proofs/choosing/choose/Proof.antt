@@ -27,13 +27,10 @@ search-requires c κs =
     let p = c .before .before .before .before .before .pre in
     (p .0, (p .1 .1, top-low _ _ _ (p .1 .0) (c .before .before .top-order .ensures)))
 
-bound-after-requires : tie.Need-bound-after-requires
-bound-after-requires c κs = search needs
-
 wished-requires-2 : tie.Need-wished-requires-2
 wished-requires-2 c κs =
-    let p = c .before .before .before .before .before .before .before .before .before .pre in
-    let low = top-low _ _ _ (p .1 .0) (c .before .before .before .before .before .before .top-order .ensures) in
+    let p = c .before .before .before .before .before .before .before .before .pre in
+    let low = top-low _ _ _ (p .1 .0) (c .before .before .before .before .before .top-order .ensures) in
     (p .0, omega (arith, p .1 .1))
 
 cut-at-requires-2 : tie.Need-cut-at-requires-2
@@ -41,20 +38,20 @@ cut-at-requires-2 c κs = search needs
 
 returns-2 : tie.Need-returns-2
 returns-2 c =
-    let q = top-is _ _ _ (c .before .before .before .before .before .before .before .before .before .before .before .before .pre .1 .0) (c .before .before .before .before .before .before .before .before .before .top-order .ensures) in
-    low-chosen _ _ _ _ _ _ _ _ (q .1) (q .2) _ (c .before .before .before .before .before .before .search .ensures) _ (c .before .before .before .before .bound-after .ensures) _ _ (c .before .before .wished2 .ensures) (c .before .if3 .taken) (c .cut-at2 .ensures)
+    let q = top-is _ _ _ (c .before .before .before .before .before .before .before .before .before .before .before .pre .1 .0) (c .before .before .before .before .before .before .before .before .top-order .ensures) in
+    low-chosen _ _ _ _ _ _ _ _ (q .1) (q .2) _ (c .before .before .before .before .before .search .ensures) _ _ (c .before .before .wished2 .ensures) (c .before .if3 .taken) (c .cut-at2 .ensures)
 
 returns-3 : tie.Need-returns-3
 returns-3 c =
-    let pos = c .before .before .before .before .before .before .before .before .before .before .before .pre .1 .0 in
-    let q = top-is _ _ _ pos (c .before .before .before .before .before .before .before .before .top-order .ensures) in
-    old-low _ _ _ _ _ _ _ _ (q .1) (q .2) _ (c .before .before .before .before .before .search .ensures) _ (c .before .before .before .bound-after .ensures) pos _ (c .before .wished2 .ensures) (c .if3 .left)
+    let pos = c .before .before .before .before .before .before .before .before .before .before .pre .1 .0 in
+    let q = top-is _ _ _ pos (c .before .before .before .before .before .before .before .top-order .ensures) in
+    old-low _ _ _ _ _ _ _ _ (q .1) (q .2) _ (c .before .before .before .before .search .ensures) pos _ (c .before .wished2 .ensures) (c .if3 .left)
 
 returns-4 : tie.Need-returns-4
 returns-4 c =
-    let pos = c .before .before .before .before .before .before .before .before .before .pre .1 .0 in
-    let q = top-is _ _ _ pos (c .before .before .before .before .before .before .top-order .ensures) in
-    old-top _ _ _ _ _ _ _ _ (q .1) (q .2) _ (c .before .before .before .search .ensures) _ (c .before .bound-after .ensures) pos _ (c .before .before .before .before .before .wished .ensures) (c .before .before .before .before .if1 .left) (c .if2 .left)
+    let pos = c .before .before .before .before .before .before .before .before .pre .1 .0 in
+    let q = top-is _ _ _ pos (c .before .before .before .before .before .top-order .ensures) in
+    old-top _ _ _ _ _ _ _ _ (q .1) (q .2) _ (c .before .before .search .ensures) pos _ (c .before .before .before .before .wished .ensures) (c .before .before .before .if1 .left) (c .if2 .left)
 
 pub choose-spec : {M : Type 1} → statement M
 choose-spec =
@@ -65,7 +62,6 @@ choose-spec =
     cut-at-requires
     returns
     search-requires
-    bound-after-requires
     wished-requires-2
     cut-at-requires-2
     returns-2

@@ -1,8 +1,7 @@
 use borrow.Author.Needs.{needs}
 use Rattle.splitting.proofs.choosing.search.Statement.{statement}
 use Rattle.splitting.proofs.choosing.search.Tie as tie
-use mathlib.Core.Path.{_≡_, refl}
-use mathlib.Core.Logic.{⊎-elim}
+use mathlib.Core.Path.{_≡_, refl, sym, _∙_}
 use Prim.Native.Nat.{_≤_, _-_, _+_}
 use native.Mathlib.Omega.{arith}
 use lib.Pow.{pow-pos}
@@ -10,7 +9,7 @@ use Rattle.blocks.specs.FrameWords.{freeIn}
 use Rattle.blocks.proofs.AroundLaws.{order-size}
 use Rattle.blocks.proofs.WordLaws.{lawful-is}
 use Rattle.blocks.proofs.SearchedLaws.{None, tried-small}
-use Rattle.blocks.proofs.ChoosingLaws.{starts-other, starts-read, Whatever, Scanned, none-tried, scan-starts, scan-goes-on, word-chosen, order-skipped, none-chosen}
+use Rattle.blocks.proofs.ChoosingLaws.{Whatever, Scanned, none-tried, scan-starts, scan-goes-on, word-chosen, order-skipped, none-chosen}
 
 abbrev Inv-loop2 : tie.InvT-loop2
 Inv-loop2 frames pool top known marks limit t k order size f₀ t-end f = Whatever pool frames marks known (Scanned pool k f)
@@ -60,27 +59,21 @@ start-of-requires c κs = tried-small _ _ _ _ (c .before .before .before .before
 loop2-holds : tie.Need-loop2-holds Inv-loop2 μ-loop2 Inv-loop μ-loop Inv-search μ-search
 loop2-holds c = scan-starts _ _ _ _ _ _ _ (c .before .before .scan-from .ensures) (c .start-of .ensures)
 
-cast-if1 : tie.Need-cast-if1 Inv-loop2 μ-loop2 Inv-loop μ-loop Inv-search μ-search
-cast-if1 c = search needs
-
-mul-if1 : tie.Need-mul-if1 Inv-loop2 μ-loop2 Inv-loop μ-loop Inv-search μ-search
-mul-if1 c = let l = lawful-is _ _ (c .before .before .before .before .before .before .before .before .before .before .before .before .pre .0) in omega (arith, l .small)
-
-shared-slice-read-if1 :
-    tie.Need-shared-slice-read-if1 Inv-loop2 μ-loop2 Inv-loop μ-loop Inv-search μ-search
-shared-slice-read-if1 c = let l = lawful-is _ _ (c .before .before .before .before .before .before .before .before .before .before .before .before .before .pre .0) in omega (arith, l .small, l .len)
-
-add-if1 : tie.Need-add-if1 Inv-loop2 μ-loop2 Inv-loop μ-loop Inv-search μ-search
-add-if1 c = let h = tried-small _ _ _ _ (c .before .before .before .before .before .before .before .before .before .before .before .before .before .pre .1 .0) (c .before .before .before .before .before .before .before .order-at .ensures) in omega arith
-
-is-gone-requires : tie.Need-is-gone-requires Inv-loop2 μ-loop2 Inv-loop μ-loop Inv-search μ-search
-is-gone-requires c κs = omega (arith, lawful-is _ _ (c .before .before .before .before .before .before .before .before .before .before .before .before .before .before .pre .0) .small)
+starts-by-requires :
+    tie.Need-starts-by-requires Inv-loop2 μ-loop2 Inv-loop μ-loop Inv-search μ-search
+starts-by-requires c κs =
+    let p = c .before .before .before .before .before .before .before .before .before .before .before .before .pre in
+    let l = lawful-is _ _ (p .0) in
+    (l .len, (omega (arith, l .small), tried-small _ _ _ _ (p .1 .0) (c .before .before .before .before .before .before .order-at .ensures)))
 
 cut-at-requires : tie.Need-cut-at-requires Inv-loop2 μ-loop2 Inv-loop μ-loop Inv-search μ-search
 cut-at-requires c κs = search needs
 
 add-f : tie.Need-add-f Inv-loop2 μ-loop2 Inv-loop μ-loop Inv-search μ-search
-add-f c = let z = order-size _ (tried-small _ _ _ _ (c .before .before .before .before .before .before .before .before .before .before .before .before .before .before .pre .1 .0) (c .before .before .before .before .before .before .before .before .order-at .ensures)) in omega (arith, lawful-is _ _ (c .before .before .before .before .before .before .before .before .before .before .before .before .before .before .pre .0) .small)
+add-f c =
+    let p = c .before .before .before .before .before .before .before .before .before .before .before .before .before .before .pre in
+    let z = order-size _ (tried-small _ _ _ _ (p .1 .0) (c .before .before .before .before .before .before .before .before .order-at .ensures)) in
+    omega (arith, lawful-is _ _ (p .0) .small)
 
 loop2-less : tie.Need-loop2-less Inv-loop2 μ-loop2 Inv-loop μ-loop Inv-search μ-search
 loop2-less c = omega (arith, c .before .before .before .before .before .size-of .ensures, pow-pos (c .before .before .before .before .before .before .before .before .order-at .result))
@@ -88,7 +81,7 @@ loop2-less c = omega (arith, c .before .before .before .before .before .size-of 
 loop2-again : tie.Need-loop2-again Inv-loop2 μ-loop2 Inv-loop μ-loop Inv-search μ-search
 loop2-again c =
     scan-goes-on _ _ _ _ _ _ _ (tried-small _ _ _ _ (c .before .before .before .before .before .before .before .before .before .before .before .before .before .before .pre .1 .0) (c .before .before .before .before .before .before .before .before .order-at .ensures)) (c .before .before .before .before .before .size-of .ensures) (c .before .before .before .loop2 .inv) (c .before .before .loop2-test .taken)
-    (⊎-elim (λ w. starts-read _ _ _ _ _ _ (w .0 .taken) (w .1 .ensures) (w .2 .left)) (λ w. starts-other _ _ _ _ (w .left)) (c .if1 .came))
+    (sym (c .before .starts-by .ensures) ∙ c .if1 .left)
 
 add-t : tie.Need-add-t Inv-loop2 μ-loop2 Inv-loop μ-loop Inv-search μ-search
 add-t c = search needs
@@ -105,8 +98,9 @@ cut-at-requires-2 c κs = search needs
 
 returns : tie.Need-returns Inv-loop2 μ-loop2 Inv-loop μ-loop Inv-search μ-search
 returns c =
-    word-chosen _ _ _ _ _ _ (c .before .before .before .before .before .before .before .before .before .before .before .before .before .loop .inv .1 .1) _ _ _ _ (omega arith) (tried-small _ _ _ _ (c .before .before .before .before .before .before .before .before .before .before .before .before .before .before .before .before .before .pre .1 .0) (c .before .before .before .before .before .before .before .before .before .before .before .order-at .ensures)) (c .before .before .before .before .before .before .before .before .before .before .before .order-at .ensures) (c .before .before .before .before .before .before .before .before .before .before .least .ensures) (c .before .before .before .before .before .before .loop2 .inv)
-    (c .before .before .before .before .before .loop2-test .taken) (starts-read _ _ _ _ _ _ (c .before .before .before .if1 .taken) (c .before .before .is-gone .ensures) (c .before .if2 .taken)) (c .cut-at .ensures)
+    let ke = c .before .before .before .before .before .before .before .before .before .order-at .ensures in
+    word-chosen _ _ _ _ _ _ (c .before .before .before .before .before .before .before .before .before .before .before .loop .inv .1 .1) _ _ _ _ (omega arith) (tried-small _ _ _ _ (c .before .before .before .before .before .before .before .before .before .before .before .before .before .before .before .pre .1 .0) ke) ke (c .before .before .before .before .before .before .before .before .least .ensures) (c .before .before .before .before .loop2 .inv) (c .before .before .before .loop2-test .taken)
+    (sym (c .before .before .starts-by .ensures) ∙ c .before .if1 .taken) (c .cut-at .ensures)
 
 returns-2 : tie.Need-returns-2 Inv-loop2 μ-loop2 Inv-loop μ-loop Inv-search μ-search
 returns-2 c = none-chosen _ _ _ _ _ _ (c .before .before .loop .inv .1 .1) _ (omega arith) (c .cut-at2 .ensures)
@@ -130,11 +124,7 @@ search-spec =
     size-of-requires
     start-of-requires
     loop2-holds
-    cast-if1
-    mul-if1
-    shared-slice-read-if1
-    add-if1
-    is-gone-requires
+    starts-by-requires
     cut-at-requires
     add-f
     loop2-less

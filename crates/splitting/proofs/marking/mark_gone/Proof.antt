@@ -1,14 +1,9 @@
-use mathlib.Core.Path.{_∙_, sym}
 use native.Mathlib.Omega.{arith}
 use borrow.Author.Needs.{needs}
-use borrow.Author.Tests.{not-true, not-false}
 use Rattle.words.proofs.PowerLaws.{shift-one}
-use Rattle.blocks.proofs.MarkLaws.{gone-already, gone-fits, gone-added}
+use Rattle.blocks.proofs.MarkLaws.{gone-fits, gone-added}
 use Rattle.splitting.proofs.marking.mark_gone.Statement.{statement}
 use Rattle.splitting.proofs.marking.mark_gone.Tie as tie
-
-is-gone-requires : tie.Need-is-gone-requires
-is-gone-requires c κs = search needs
 
 add-word : tie.Need-add-word
 add-word c = search needs
@@ -26,10 +21,7 @@ shl-marks : tie.Need-shl-marks
 shl-marks c = search needs
 
 add-marks : tie.Need-add-marks
-add-marks c =
-    record {
-      fits = gone-fits _ _ _ (sym (c .before .before .is-gone .ensures) ∙ not-true _ (c .before .if1 .taken)) (shift-one 32 _ (omega arith)) (c .slice-known2 .given _ .fits);
-    }
+add-marks c = record { fits = gone-fits _ _ _ (c .before .pre .1 .1) (shift-one 32 _ (omega arith)) (c .slice-known .given _ .fits) }
 
 mul-marks-2 : tie.Need-mul-marks-2
 mul-marks-2 c = search needs
@@ -41,21 +33,12 @@ same-length : tie.Need-same-length
 same-length c = search needs
 
 returns : tie.Need-returns
-returns c =
-    let p = c .before .before .before .before .before .pre in
-    gone-added _ _ _ (sym (c .before .before .is-gone .ensures) ∙ not-true _ (c .before .if1 .taken)) (shift-one 32 _ (omega arith)) (p .0) (p .1)
-
-same-length-2 : tie.Need-same-length-2
-same-length-2 c = search needs
-
-returns-2 : tie.Need-returns-2
-returns-2 c = gone-already _ _ (sym (c .before .is-gone .ensures) ∙ not-false _ (c .if1 .left))
+returns c = let p = c .before .pre in gone-added _ _ _ (p .1 .1) (shift-one 32 _ (omega arith)) (p .0) (p .1 .0)
 
 pub mark-gone-spec : {M : Type 1} → statement M
 mark-gone-spec =
     tie.close
     (tie.spec
-    is-gone-requires
     add-word
     cast-word
     mul-marks
@@ -65,6 +48,4 @@ mark-gone-spec =
     mul-marks-2
     slice-write-marks
     same-length
-    returns
-    same-length-2
-    returns-2)
+    returns)

@@ -24,7 +24,7 @@ nothing-known-requires : tie.Need-nothing-known-requires Inv-loop μ-loop
 nothing-known-requires c κs = search needs
 
 loop-holds : tie.Need-loop-holds Inv-loop μ-loop
-loop-holds c = let p = c .before .before .before .pre in (trying-start _ _ _ _ _ (p .0) (p .1 .1 .1 .0) (omega arith) (p .1 .1 .0 .held) (c .nothing-known .ensures), (blocks-none _ _ _ _, refl))
+loop-holds c = let p = c .before .before .before .pre in (trying-start _ _ _ _ _ (p .0) (p .1 .1 .1 .0) (omega arith) (p .1 .1 .0) (c .nothing-known .ensures), (blocks-none _ _ _ _, refl))
 
 sub-mark-block : tie.Need-sub-mark-block Inv-loop μ-loop
 sub-mark-block c = search needs
