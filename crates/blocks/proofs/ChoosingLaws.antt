@@ -4,25 +4,25 @@ use mathlib.Core.Bool.{Bool, true, false, not}
 use mathlib.Core.List.{List}
 use mathlib.Core.Option.{Option, none, some}
 use Prim.Native.Nat.{ℕ, _+_, _^_, _-_, _<_, _≤_}
-use native.Mathlib.Decide.{decLe, ℕ-discrete}
+use native.Mathlib.Decide.{decLt, decLe, ℕ-discrete}
 use native.Mathlib.Omega.{arith}
 use lib.Dec.{eqb}
 use lib.ListN.{getD}
 use lib.Pow.{pow-mono}
 use borrow.Author.Tests.{eq-eqb, ne-eqb, eqb-true, not-true}
-use Rattle.words.proofs.Cases.{by-test, by-dec, true-false, and-true, none-some, not-there}
+use Rattle.words.proofs.Cases.{by-test, by-dec, true-false, and-true, and-false, none-some, not-there}
 use Rattle.blocks.specs.declared.Block.{Block}
 use Rattle.blocks.specs.declared.Bound.{Bound}
 use Rattle.blocks.specs.declared.Cut.{Cut}
-use Rattle.blocks.specs.Blocks.{block, whollyFree}
+use Rattle.blocks.specs.Blocks.{block, whollyFree, freeBlock}
 use Rattle.blocks.specs.FrameWords.{ownersOf, freeIn, lawful}
 use Rattle.blocks.specs.Choice.{orderFor, takeBlock}
 use Rattle.blocks.specs.Inner.Around.{startOf, around, orderWord}
 use Rattle.blocks.specs.Inner.Taking.{Clear, Searched}
-use Rattle.blocks.specs.Inner.Passes.{orderWithin, orderAt, least, asBlock, scanFrom}
+use Rattle.blocks.specs.Inner.Passes.{orderWithin, orderAt, least, asBlock, scanFrom, PassedTo}
 use Rattle.blocks.specs.Inner.Marks.{goneAt, startsBy, Stands, Finds, Wished, Chooses}
-use Rattle.blocks.proofs.AroundLaws.{in-block, start-in, around-at, at-around, around-same, smaller, order-here}
-use Rattle.blocks.proofs.FreeBlockLaws.{whole-at, at-whole, in-block-at}
+use Rattle.blocks.proofs.AroundLaws.{in-block, block-in, start-same, start-next, start-in, around-at, at-around, around-same, smaller, order-here}
+use Rattle.blocks.proofs.FreeBlockLaws.{whole-at, at-whole, in-block-at, free-block-at}
 use Rattle.blocks.proofs.WordLaws.{free-zero, start-word, other-word, free-frame, Lawful, lawful-is, word-block, block-word}
 use Rattle.blocks.proofs.ChoiceLaws.{Taking, one, end, taking, took-free}
 use Rattle.blocks.proofs.SearchedLaws.{within, least-is, above-top, order-low, None, none-zero, scan-start, passed, skipped, chosen, chosen-none, as-some}
@@ -39,6 +39,14 @@ module _ (b m : List ℕ) (k s : ℕ) where
   pub starts-other : (getD b s 0 ≡ 16384 + k → ⊥) → startsBy b m k s ≡ false
   unfolding startsBy
   starts-other n = rw (ne-eqb _ _ n, startsBy)
+
+  pub starts-gone : goneAt m s ≡ true → startsBy b m k s ≡ false
+  unfolding startsBy
+  starts-gone t = and-false (eqb (getD b s 0) (16384 + k)) (not (goneAt m s)) (ap not t)
+
+  starts-word : startsBy b m k s ≡ true → getD b s 0 ≡ 16384 + k
+  unfolding startsBy
+  starts-word t = eqb-true _ _ (and-true (eqb (getD b s 0) (16384 + k)) (not (goneAt m s)) t .0)
 
   pub starts-left : startsBy b m k s ≡ true → goneAt m s ≡ false
   unfolding startsBy
@@ -157,6 +165,40 @@ module _ (F : ℕ) (b m : List ℕ) (x : Bound) where
   unfolding Whatever
   scan-goes-on k f z hk ze sc h n w st known =
       passed F w (st .lawful) k f z ze (sc w st known) h (λ e. true-false (startsBy b m k f) (first-by F b m w st k f hk h e) n)
+
+-- the words lent are scanned from start to start of a block of order k
+pub start-after : (k f z : ℕ) → z ≡ 2 ^ k → startOf k f ≡ f → startOf k (f + z) ≡ f + z
+start-after k f z ze st = rw ze (start-next k f st)
+
+module _ (b : List ℕ) (k f : ℕ) where
+  pub passed-none : startOf k f ≡ f → PassedTo b k f f
+  passed-none st = record { on = omega arith; starts = st; none-first = λ g lo hi. absurd (omega arith) }
+
+  pub passed-more : (g z : ℕ) → z ≡ 2 ^ k → PassedTo b k f g → (getD b g 0 ≡ 16384 + k → ⊥) → PassedTo b k f (g + z)
+  passed-more g z ze p n = rw ze (record {
+    on = omega (arith, p .on);
+    starts = start-next k g (p .starts);
+    none-first = λ h lo hi st e. by-dec (decLt h g)
+        (λ lt. p .none-first h lo lt st e)
+        (λ ge.
+        let one : startOf k h ≡ startOf k g = start-same k g h (block-in k g h (omega (arith, p .starts)) (omega (arith, p .starts))) in
+        let same : h ≡ g = sym st ∙ one ∙ p .starts in
+        n (rw same at e));
+  })
+
+-- so no free block was passed over
+pub scan-passes : (F : ℕ) (b m : List ℕ) (x : Bound) (k f r : ℕ) → k ≤ 10 → PassedTo b k f r → Whatever F b m x (Scanned F k f) → Whatever F b m x (Scanned F k r)
+unfolding Whatever
+scan-passes F b m x k f r hk p sc w st known = (record { none-at = λ s h. by-dec (decLt s f) (λ lt. sc w st known .0 .none-at s lt) (λ ge. not-there-at s h (omega arith)) }, p .starts)
+  where
+    not-there-at : (s : ℕ) → s < r → f ≤ s → freeBlock F (freeIn w) k s ≡ false
+    not-there-at s h lo =
+        by-test (freeBlock F (freeIn w) k s)
+        (λ t.
+        let at = free-block-at F (freeIn w) k s t in
+        let first = block-word F w (lawful-is F w (st .lawful)) k s (at .inside) at in
+        absurd (p .none-first s lo h (at .aligned) (starts-word b m k s (first-by F b m w st k s hk (at .inside) first))))
+        (λ n. n)
 
 -- the block of this order at s, in the free block of order top
 abbrev pub IsCut : Cut → ℕ → ℕ → ℕ → Type 0

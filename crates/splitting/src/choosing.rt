@@ -5,10 +5,10 @@ ghost use mathlib.Core.Option.{some};
 ghost use Prim.Native.Nat.{_<_, _≤_};
 ghost use lib.ListN.{length, getD};
 ghost use Rattle.blocks.specs.Blocks.{largestOrder, block};
-ghost use Rattle.blocks.specs.FrameWords.{frameBufferWords, largestPool, lawful};
+ghost use Rattle.blocks.specs.FrameWords.{frameBufferWords, largestPool, firstOf, lawful};
 ghost use Rattle.blocks.specs.Inner.Around.{startOf};
 ghost use Rattle.blocks.specs.Inner.Taking.{nothingKnown};
-ghost use Rattle.blocks.specs.Inner.Passes.{orderWithin, TopOrder, orderAt, least, scanFrom, fromAfter, boundAfter};
+ghost use Rattle.blocks.specs.Inner.Passes.{orderWithin, TopOrder, orderAt, least, scanFrom, PassedTo, fromAfter, boundAfter};
 ghost use Rattle.blocks.specs.Inner.Marks.{goneAt, startsBy, Finds, Wished, Chooses};
 use blocks::Block;
 use blocks::Bound;
@@ -175,6 +175,26 @@ fn cut_at(s: Frame, order: u32, top: u32) -> Cut
     }
 }
 
+// The first start of a block of order k, from the one given on, at which the words lent have a free block of that order, or a start past the pool. A loop of its own, so that the compiler keeps it short.
+fn next_first(frames: &[u32], pool: u32, from: u32, k: u32) -> u32
+    requires { ⌜ length (now frames) ≡ frameBufferWords ⌝ }
+    requires { ⌜ pool ≤ largestPool ⌝ }
+    requires { ⌜ k ≤ largestOrder ⌝ }
+    requires { ⌜ startOf k from ≡ from ⌝ }
+    ensures { λ r. ⌜ PassedTo (now (frames .entry)) k from r ⌝ }
+    ensures { λ r. ⌜ (r < pool → getD (now (frames .entry)) r 0 ≡ firstOf k) ⌝ }
+{
+    let size = size_of(k);
+    let mut f = from;
+    while f < pool {
+        if frames[f as usize] == FREE_FIRST + k {
+            return f;
+        }
+        f += size;
+    }
+    f
+}
+
 // The old choice, where no order above `top` can be chosen, earlier searches have shown `known` and the marks say what is taken already; order 11 says that there is none.
 fn search(frames: &[u32], pool: u32, top: u32, known: Bound, marks: &[u32]) -> Cut
     requires { ⌜ lawful pool (now frames) ≡ true ⌝ }
@@ -191,13 +211,13 @@ fn search(frames: &[u32], pool: u32, top: u32, known: Bound, marks: &[u32]) -> C
             let size = size_of(k);
             // A block of order k starts only at a multiple of its size.
             let first = start_of(from, k);
-            let mut f = first.0;
+            let mut f = next_first(frames, pool, first.0, k);
             while f < pool {
-                let starts = starts_by(frames, marks, Frame(f), k);
-                if starts {
+                let gone = is_gone(marks, Frame(f));
+                if !gone {
                     break 'search cut_at(Frame(f), order, k);
                 }
-                f += size;
+                f = next_first(frames, pool, f + size, k);
             }
         }
         break cut_at(Frame(0), ORDERS, 0);

@@ -74,6 +74,12 @@ asBlock (some b) = b
 unfoldable pub scanFrom : Bound → ℕ → ℕ
 scanFrom x k = elim (eqb k (x .limit)) [ true ↦ x .from .0 | false ↦ 0 ]
 
+-- r is f or a later start of a block of order k, and no start from f on before it has the word of a free block of that order
+pub record PassedTo (b : List ℕ) (k f r : ℕ) : Type 0 where
+  pub on : f ≤ r
+  pub starts : startOf k r ≡ r
+  pub none-first : (g : ℕ) → f ≤ g → g < r → startOf k g ≡ g → getD b g 0 ≡ firstOf k → ⊥
+
 -- the frame from which the next scan for the order of block b starts, where no larger free block is left: behind b where it lies elsewhere than at the wish, for then it was the lowest; at the wish it need not be, so where the scan would have started before
 unfoldable pub fromAfter : Bound → Block → ℕ → ℕ
 fromAfter x b wish = elim (eqb (b .start .0) wish) [ true ↦ scanFrom x (b .order) | false ↦ endOf b ]

@@ -1,18 +1,23 @@
 use borrow.Author.Needs.{needs}
 use Rattle.splitting.proofs.choosing.search.Statement.{statement}
 use Rattle.splitting.proofs.choosing.search.Tie as tie
-use mathlib.Core.Path.{_≡_, refl, sym, _∙_}
-use Prim.Native.Nat.{_≤_, _-_, _+_}
+use mathlib.Core.Path.{_≡_, refl, ap, sym, _∙_}
+use mathlib.Core.Bool.{not}
+use Prim.Native.Nat.{_≤_, _<_, _-_, _+_}
 use native.Mathlib.Omega.{arith}
+use lib.ListN.{getD}
 use lib.Pow.{pow-pos}
+use borrow.Author.Tests.{not-false}
+use Rattle.blocks.specs.Inner.Around.{startOf}
 use Rattle.blocks.specs.FrameWords.{freeIn}
-use Rattle.blocks.proofs.AroundLaws.{order-size}
+use Rattle.blocks.proofs.AroundLaws.{order-size, start-start}
 use Rattle.blocks.proofs.WordLaws.{lawful-is}
 use Rattle.blocks.proofs.SearchedLaws.{None, tried-small}
-use Rattle.blocks.proofs.ChoosingLaws.{Whatever, Scanned, none-tried, scan-starts, scan-goes-on, word-chosen, order-skipped, none-chosen}
+use Rattle.blocks.proofs.ChoosingLaws.{starts-if, starts-gone, Whatever, Scanned, none-tried, scan-starts, scan-goes-on, start-after, scan-passes, word-chosen, order-skipped, none-chosen}
 
 abbrev Inv-loop2 : tie.InvT-loop2
-Inv-loop2 frames pool top known marks limit t k order size f₀ t-end f = Whatever pool frames marks known (Scanned pool k f)
+Inv-loop2 frames pool top known marks limit t k order size f₀ t-end f =
+    (startOf k f ≡ f) × ((f < pool → getD frames f 0 ≡ 16384 + k) × Whatever pool frames marks known (Scanned pool k f))
 
 abbrev μ-loop2 : tie.MeasureT-loop2
 μ-loop2 frames pool top known marks limit t k order size f₀ t-end f = pool - f
@@ -56,32 +61,48 @@ start-of-requires :
     tie.Need-start-of-requires Inv-loop2 μ-loop2 Inv-loop μ-loop Inv-search μ-search
 start-of-requires c κs = tried-small _ _ _ _ (c .before .before .before .before .before .before .before .before .before .pre .1 .0) (c .before .before .before .order-at .ensures)
 
-loop2-holds : tie.Need-loop2-holds Inv-loop2 μ-loop2 Inv-loop μ-loop Inv-search μ-search
-loop2-holds c = scan-starts _ _ _ _ _ _ _ (c .before .before .scan-from .ensures) (c .start-of .ensures)
-
-starts-by-requires :
-    tie.Need-starts-by-requires Inv-loop2 μ-loop2 Inv-loop μ-loop Inv-search μ-search
-starts-by-requires c κs =
-    let p = c .before .before .before .before .before .before .before .before .before .before .before .before .pre in
+next-first-requires :
+    tie.Need-next-first-requires Inv-loop2 μ-loop2 Inv-loop μ-loop Inv-search μ-search
+next-first-requires c κs =
+    let p = c .before .before .before .before .before .before .before .before .before .before .pre in
     let l = lawful-is _ _ (p .0) in
-    (l .len, (omega (arith, l .small), tried-small _ _ _ _ (p .1 .0) (c .before .before .before .before .before .before .order-at .ensures)))
+    let e = c .start-of .ensures in
+    (l .len, (l .small, (tried-small _ _ _ _ (p .1 .0) (c .before .before .before .before .order-at .ensures), ap (startOf _) e ∙ start-start _ _ ∙ sym e)))
+
+loop2-holds : tie.Need-loop2-holds Inv-loop2 μ-loop2 Inv-loop μ-loop Inv-search μ-search
+loop2-holds c =
+    let next = c .next-first .ensures in
+    let hk = tried-small _ _ _ _ (c .before .before .before .before .before .before .before .before .before .before .before .pre .1 .0) (c .before .before .before .before .before .order-at .ensures) in
+    (next .0 .starts, (next .1, scan-passes _ _ _ _ _ _ _ hk (next .0) (scan-starts _ _ _ _ _ _ _ (c .before .before .before .scan-from .ensures) (c .before .start-of .ensures))))
+
+is-gone-requires : tie.Need-is-gone-requires Inv-loop2 μ-loop2 Inv-loop μ-loop Inv-search μ-search
+is-gone-requires c κs = omega (arith, lawful-is _ _ (c .before .before .before .before .before .before .before .before .before .before .before .before .before .pre .0) .small)
 
 cut-at-requires : tie.Need-cut-at-requires Inv-loop2 μ-loop2 Inv-loop μ-loop Inv-search μ-search
 cut-at-requires c κs = search needs
 
-add-f : tie.Need-add-f Inv-loop2 μ-loop2 Inv-loop μ-loop Inv-search μ-search
-add-f c =
-    let p = c .before .before .before .before .before .before .before .before .before .before .before .before .before .before .pre in
-    let z = order-size _ (tried-small _ _ _ _ (p .1 .0) (c .before .before .before .before .before .before .before .before .order-at .ensures)) in
-    omega (arith, lawful-is _ _ (p .0) .small)
+add-next-first : tie.Need-add-next-first Inv-loop2 μ-loop2 Inv-loop μ-loop Inv-search μ-search
+add-next-first c =
+    let p = c .before .before .before .before .before .before .before .before .before .before .before .before .before .before .before .pre in
+    let z = order-size _ (tried-small _ _ _ _ (p .1 .0) (c .before .before .before .before .before .before .before .before .before .order-at .ensures)) in
+    omega (arith, lawful-is _ _ (p .0) .small, c .before .before .before .before .before .before .size-of .ensures)
+
+next-first-requires-2 :
+    tie.Need-next-first-requires-2 Inv-loop2 μ-loop2 Inv-loop μ-loop Inv-search μ-search
+next-first-requires-2 c κs =
+    let p = c .before .before .before .before .before .before .before .before .before .before .before .before .before .before .before .pre in
+    let l = lawful-is _ _ (p .0) in
+    (l .len, (l .small, (tried-small _ _ _ _ (p .1 .0) (c .before .before .before .before .before .before .before .before .before .order-at .ensures), start-after _ _ _ (c .before .before .before .before .before .before .size-of .ensures) (c .before .before .before .loop2 .inv .0))))
 
 loop2-less : tie.Need-loop2-less Inv-loop2 μ-loop2 Inv-loop μ-loop Inv-search μ-search
-loop2-less c = omega (arith, c .before .before .before .before .before .size-of .ensures, pow-pos (c .before .before .before .before .before .before .before .before .order-at .result))
+loop2-less c = omega (arith, c .next-first2 .ensures .0 .on, c .before .before .before .before .before .before .before .size-of .ensures, pow-pos (c .before .before .before .before .before .before .before .before .before .before .order-at .result))
 
 loop2-again : tie.Need-loop2-again Inv-loop2 μ-loop2 Inv-loop μ-loop Inv-search μ-search
 loop2-again c =
-    scan-goes-on _ _ _ _ _ _ _ (tried-small _ _ _ _ (c .before .before .before .before .before .before .before .before .before .before .before .before .before .before .pre .1 .0) (c .before .before .before .before .before .before .before .before .order-at .ensures)) (c .before .before .before .before .before .size-of .ensures) (c .before .before .before .loop2 .inv) (c .before .before .loop2-test .taken)
-    (sym (c .before .starts-by .ensures) ∙ c .if1 .left)
+    let next = c .next-first2 .ensures in
+    let hk = tried-small _ _ _ _ (c .before .before .before .before .before .before .before .before .before .before .before .before .before .before .before .before .pre .1 .0) (c .before .before .before .before .before .before .before .before .before .before .order-at .ensures) in
+    let gone = sym (c .before .before .is-gone .ensures) ∙ not-false _ (c .before .if1 .left) in
+    (next .0 .starts, (next .1, scan-passes _ _ _ _ _ _ _ hk (next .0) (scan-goes-on _ _ _ _ _ _ _ hk (c .before .before .before .before .before .before .before .size-of .ensures) (c .before .before .before .before .loop2 .inv .1 .1) (c .before .before .before .loop2-test .taken) (starts-gone _ _ _ _ gone))))
 
 add-t : tie.Need-add-t Inv-loop2 μ-loop2 Inv-loop μ-loop Inv-search μ-search
 add-t c = search needs
@@ -90,7 +111,9 @@ loop-less : tie.Need-loop-less Inv-loop2 μ-loop2 Inv-loop μ-loop Inv-search μ
 loop-less c = search needs
 
 loop-again : tie.Need-loop-again Inv-loop2 μ-loop2 Inv-loop μ-loop Inv-search μ-search
-loop-again c = (c .before .before .before .before .before .before .before .before .loop .inv .0, (omega arith, order-skipped _ _ _ _ _ _ (c .before .before .before .before .before .before .before .before .loop .inv .1 .1) _ _ (c .before .before .before .before .before .before .order-at .ensures) (c .before .loop2 .inv) (c .loop2-test .left)))
+loop-again c =
+    let inv = c .before .before .before .before .before .before .before .before .before .loop .inv in
+    (inv .0, (omega arith, order-skipped _ _ _ _ _ _ (inv .1 .1) _ _ (c .before .before .before .before .before .before .before .order-at .ensures) (c .before .loop2 .inv .1 .1) (c .loop2-test .left)))
 
 cut-at-requires-2 :
     tie.Need-cut-at-requires-2 Inv-loop2 μ-loop2 Inv-loop μ-loop Inv-search μ-search
@@ -98,9 +121,11 @@ cut-at-requires-2 c κs = search needs
 
 returns : tie.Need-returns Inv-loop2 μ-loop2 Inv-loop μ-loop Inv-search μ-search
 returns c =
-    let ke = c .before .before .before .before .before .before .before .before .before .order-at .ensures in
-    word-chosen _ _ _ _ _ _ (c .before .before .before .before .before .before .before .before .before .before .before .loop .inv .1 .1) _ _ _ _ (omega arith) (tried-small _ _ _ _ (c .before .before .before .before .before .before .before .before .before .before .before .before .before .before .before .pre .1 .0) ke) ke (c .before .before .before .before .before .before .before .before .least .ensures) (c .before .before .before .before .loop2 .inv) (c .before .before .before .loop2-test .taken)
-    (sym (c .before .before .starts-by .ensures) ∙ c .before .if1 .taken) (c .cut-at .ensures)
+    let ke = c .before .before .before .before .before .before .before .before .before .before .order-at .ensures in
+    let here = c .before .before .before .before .loop2 .inv in
+    let inside = c .before .before .before .loop2-test .taken in
+    let starts = sym (starts-if _ _ _ _ (here .1 .0 inside)) ∙ ap not (sym (c .before .before .is-gone .ensures)) ∙ c .before .if1 .taken in
+    word-chosen _ _ _ _ _ _ (c .before .before .before .before .before .before .before .before .before .before .before .before .loop .inv .1 .1) _ _ _ _ (omega arith) (tried-small _ _ _ _ (c .before .before .before .before .before .before .before .before .before .before .before .before .before .before .before .before .pre .1 .0) ke) ke (c .before .before .before .before .before .before .before .before .before .least .ensures) (here .1 .1) inside starts (c .cut-at .ensures)
 
 returns-2 : tie.Need-returns-2 Inv-loop2 μ-loop2 Inv-loop μ-loop Inv-search μ-search
 returns-2 c = none-chosen _ _ _ _ _ _ (c .before .before .loop .inv .1 .1) _ (omega arith) (c .cut-at2 .ensures)
@@ -123,10 +148,12 @@ search-spec =
     scan-from-requires
     size-of-requires
     start-of-requires
+    next-first-requires
     loop2-holds
-    starts-by-requires
+    is-gone-requires
     cut-at-requires
-    add-f
+    add-next-first
+    next-first-requires-2
     loop2-less
     loop2-again
     add-t
