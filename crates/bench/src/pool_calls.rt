@@ -59,7 +59,7 @@ fn look(call: Call, words: [u32; BUFFER_WORDS], r: Request, out: &mut [u32]) -> 
 {
     let mut frames = words;
     let outcome = frames::outcome(make(call, &mut frames, r, out));
-    // Word n - 1.
+    // Word n - 1, or where n is 0 the last.
     let word = frames[((r.n % LARGEST_POOL + LAST_FRAME) % LARGEST_POOL) as usize];
     Seen {
         outcome,

@@ -188,10 +188,11 @@ block-taken F b lw wish left x is o pos room next searched b′ be =
       searched = rw (then-free F b lw wish left x is o pos room b′ be) searched;
     }
 
--- the same by what code hands on
+-- what code hands on, by its two parts
 pub chosen-same : (r : Chosen) (x : Block) (next : Bound) → r .block ≡ x → r .known ≡ next → r ≡ record { block = x; known = next }
 chosen-same r x next xe ne = rw (← xe, ← ne)
 
+-- the same by what code hands on
 pub block-searched : (F : ℕ) (b : List ℕ) (lw : lawful F b ≡ true) (wish left : ℕ) (x : Block) (is : takeBlock F (freeIn b) (some wish) left ≡ some x) (o : ℕ) → 1 ≤ o → o + left ≤ 4097
     → (known : Bound) → Searched F (freeIn b) known → (r : Chosen) → r .block ≡ x → r .known ≡ boundAfter known x wish left → (b′ : List ℕ) → b′ ≡ frameWords F (handed (ownersOf b) (x .order) (x .start .0) o)
     → BlockTaken F b o wish left r b′

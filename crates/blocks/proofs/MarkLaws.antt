@@ -2,7 +2,7 @@
 use mathlib.Core.Path.{_≡_, refl, ap, _∙_, sym, subst}
 use mathlib.Core.Bool.{Bool, true, false, _&&_, _||_, not}
 use mathlib.Core.List.{List}
-use mathlib.Core.Option.{none, some}
+use mathlib.Core.Option.{some}
 use Prim.Native.Nat.{ℕ, _+_, _/_, _%_, _^_, _-_, _<_, _≤_}
 use native.Mathlib.Decide.{decLt, decLe, ℕ-discrete}
 use native.Mathlib.Omega.{arith}
@@ -13,7 +13,7 @@ use lib.Pow.{pow-pos, pow-mono}
 use borrow.Author.Tests.{eq-eqb, ne-eqb}
 use Rattle.words.specs.Bits.{hasBit}
 use Rattle.words.specs.Counts.{count}
-use Rattle.words.proofs.Cases.{by-test, by-dec, true-false, none-some, or-false, or-none, and-false}
+use Rattle.words.proofs.Cases.{by-test, by-dec, true-false, none-some, or-false, or-none}
 use Rattle.words.proofs.TableLaws.{all-default, getD-tabulate}
 use Rattle.words.proofs.PowerLaws.{double, pow-less}
 use Rattle.words.proofs.BitLaws.{no-bit, bit-added, bit-fits}
@@ -36,7 +36,7 @@ use Rattle.blocks.proofs.SearchedLaws.{NoneAbove, within, too-large, cu
 use Rattle.blocks.proofs.WishLaws.{Taken, at-wish, as-old, taken-is, taken-order, wish-met, order-whole}
 use Rattle.blocks.proofs.TakeLaws.{old-word, kept-word, word-half}
 use Rattle.blocks.proofs.AllocateLaws.{chosen-is, chosen-small, chosen-inside, chosen-part, Rest, block-taken, chosen-same, block-searched, rest-of}
-use Rattle.blocks.proofs.ChoosingLaws.{starts-left, first-by}
+use Rattle.blocks.proofs.ChoosingLaws.{starts-gone, starts-left, first-by}
 
 -- marks that are all 0 stand for the words lent
 
@@ -183,14 +183,13 @@ module _ (F : ℕ) (b m w : List ℕ) (st : Stands F b m w) (s i o : ℕ) (x : P
   not-first : (k t : ℕ) → t < F → t / 2 ^ i ≡ s / 2 ^ i → eqb (getD then t 0) (16384 + k) ≡ false
   not-first k t h mine = ne-eqb _ _ (λ e. let q = word-half F w lw i i s o x pos t k mine room (sym (word-then t h) ∙ e) in omega (arith, q .0, q .1))
 
-  starts-gone : (k : ℕ) → startsBy b m′ k s ≡ false
-  unfolding startsBy
-  starts-gone k =
+  taken-gone : (k : ℕ) → startsBy b m′ k s ≡ false
+  taken-gone k =
       let gone : goneAt m′ s ≡ true =
       by-test (goneAt m′ s) (λ t. t)
       (λ f. true-false (eqb s s) (eq-eqb s s refl) (or-false (goneAt m s) (eqb s s) (sym (g .gone s (omega (arith, at .inside, lw .small))) ∙ f) .1))
       in
-      and-false (eqb (getD b s 0) (16384 + k)) (not (goneAt m′ s)) (ap not gone)
+      starts-gone b m′ k s gone
 
   starts-kept : (k t : ℕ) → t < F → (t ≡ s → ⊥) → startsBy b m k t ≡ startsBy b m′ k t
   unfolding startsBy
@@ -201,7 +200,7 @@ module _ (F : ℕ) (b m w : List ℕ) (st : Stands F b m w) (s i o : ℕ) (x : P
   not-by : (k t : ℕ) → k ≤ 10 → t < F → t / 2 ^ i ≡ s / 2 ^ i → startsBy b m′ k t ≡ false
   not-by k t hk h mine =
       by-dec (ℕ-discrete t s)
-      (λ e. ap (startsBy b m′ k) e ∙ starts-gone k)
+      (λ e. ap (startsBy b m′ k) e ∙ taken-gone k)
       (λ ne. sym (starts-kept k t h ne) ∙ sym (st .firsts k t hk h) ∙ ne-eqb (getD w t 0) (16384 + k) (λ e. omega (arith, old-word F w lw i s at t mine ne)))
 
   still-stands : lawful F then ≡ true → freeIn then ≡ without (freeIn w) i s → Stands F b m′ then

@@ -58,7 +58,7 @@ module _ (F : ℕ) (free : ℕ → Bool) where
       let q = in-block-at F free k s (w .0) (w .2) in
       largest-unique 10 (isServed F free left) k (w .0) (at-served F free left k fits (at-serving F free k (q .0) _ (q .1) (q .2) (q .3))) no-more
 
-  -- a block taken with a wish is of the order chosen, and starts at the wish or is the old choice
+  -- a block taken with a wish starts at the wish and is of the order chosen, or is the old choice
   pub data Taken (s left : ℕ) (x : Block) : Type 0 where
     at-wish : orderFor F free left ≡ some (x .order) → x .start .0 ≡ s → Taken s left x
     as-old : takeBlock F free none left ≡ some x → Taken s left x

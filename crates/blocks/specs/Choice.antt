@@ -94,6 +94,6 @@ blockCount F free wish n = length (blocksFor F free wish n)
 unfoldable pub wishOf : ℕ → ℕ → Option ℕ
 wishOf F w = elim (ltb w F) [ true ↦ some w | false ↦ none ]
 
--- the frame before the wish is not free: so no free block begins before the wish and holds it. A preview asks that of its wish
+-- the frame before the wish is not free: so no free block begins before the wish and holds it. The inner steps of a preview ask that of their wish; no promise of a call names it
 pub record HeldBefore (F : ℕ) (free : ℕ → Bool) (wish : ℕ) : Type 0 where
   pub held : (f : ℕ) → wish ≡ f + 1 → wish < F → free f ≡ false
