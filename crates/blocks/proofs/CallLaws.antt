@@ -137,6 +137,7 @@ module _ (F : ℕ) (b : List ℕ) where
   judged-more n rs (here e t) = here e t
   judged-more n rs (later l (here e t)) = later l (here e t)
   judged-more n rs (later l (later u (here e t))) = later l (later u (here e t))
+  judged-more n rs (later l (later u (later s r))) = elim r [ ]
 
   -- as the code has it: o the outcome of what check answered, x the same
   module _ (o x : Outcome) (w : Called (Check F) (lent b []) o (lent b [])) (xe : x ≡ o) where

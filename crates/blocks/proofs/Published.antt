@@ -23,7 +23,7 @@ use Rattle.blocks.specs.Inner.Marks.{Marking, Previewed, BlockMarked}
 use Rattle.blocks.proofs.WordLaws.{owners-small, lawful-is, lawful-yes, table-lawful}
 use Rattle.blocks.proofs.WordLaws
 use Rattle.blocks.proofs.ChoiceLaws.{Good, takes-good, takes_all, Taking, taking, one, end, frame-first, frame-rest, take_blocks-same, past-pool-blocks}
-use Rattle.blocks.proofs.SearchedLaws.{nothing_known}
+use Rattle.blocks.proofs.SearchedLaws.{nothing_known_lem}
 use Rattle.blocks.proofs.AllocateLaws.{Rest, rest_of}
 use Rattle.blocks.proofs.MarkLaws.{nothing-marked}
 use Rattle.blocks.proofs.FreeLaws.{cleared-in, cleared-out, given-at, given-other, freed-again, nobody-holds}
@@ -188,7 +188,7 @@ going_start F b o w n known lw enough pos room e =
       at_most = zero-le;
       few = zero-le;
       enough = omega arith;
-      searched = rw e (nothing_known F (free_in b));
+      searched = rw e (nothing_known_lem F (free_in b));
       blocks-are = rw z (omega arith);
       frames-are = λ t. rw (z, zero-add t) refl;
       owners-are = rw (z, add-zero o) refl;

@@ -334,8 +334,8 @@ passed F b lw k f z e (cl, st) h n = rw e (clear-more F (free_in b) k f cl st (n
 -- what is known after a block was taken
 
 module _ (F : ℕ) (free : ℕ → Bool) where
-  pub nothing_known : Searched F free nothing_known
-  nothing_known = record { small = omega arith; above = λ k lo hi. absurd (omega arith); before = record { none-at = λ s h. absurd (omega arith) } }
+  pub nothing_known_lem : Searched F free nothing_known
+  nothing_known_lem = record { small = omega arith; above = λ k lo hi. absurd (omega arith); before = record { none-at = λ s h. absurd (omega arith) } }
 
   cut-is : (i : ℕ) (x : Block) (o : Option ℕ) → cut_at i o ≡ some x → (x.order ≡ i) × (o ≡ some x.start.0)
   unfolding cut_at

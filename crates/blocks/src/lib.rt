@@ -1,4 +1,5 @@
 // The frame pool's types. Definitions and laws stand in specs/ and proofs/; the code is in the crates `framewords`, `splitting`, `merging` and `frames`.
+#![tactic(auto)]
 
 // Pool sizes are 1 to 4,096.
 pub const LARGEST_POOL: u32 = 4096;

@@ -1,0 +1,15 @@
+use Rattle.words.proofs.ScanLaws.{differs-on, counts-test}
+use Rattle.words.specs.Inner.{counts_in}
+use Rattle.words.specs.Searches.{all_from}
+use lib.Dec.{eqb}
+use native.Mathlib.Omega.{arith}
+use Prim.Native.Nat.{ℕ, ◌-◌, ◌+◌, ◌≤◌}
+use mathlib.Core.Path.{◌≡◌, refl, ap, ◌∙◌}
+use borrow.Author.Rules.{rules}
+use Rattle.words.proofs.scans.chunk_counts.Given as goal
+
+abbrev pub invariant-loop-j : goal.invariant-loop-j
+invariant-loop-j l = (l.j ≤ 16) × (eqb l.d 0 ≡ all_from l.j l.at (counts_in l.words l.at l.v))
+
+abbrev pub decreases-loop-j : goal.decreases-loop-j
+decreases-loop-j l = 16 - l.j

@@ -1,0 +1,19 @@
+use Rattle.words.proofs.ScanLaws.{differs-on, same_test}
+use Rattle.words.specs.Inner.{same_in}
+use Rattle.words.specs.Searches.{all_from}
+use lib.Dec.{eqb}
+use native.Mathlib.Omega.{arith}
+use Prim.Native.Nat.{ℕ, ◌-◌, ◌+◌, ◌≤◌}
+use mathlib.Core.Path.{◌≡◌, refl, ap, ◌∙◌}
+use borrow.Author.Rules.{rules}
+use Rattle.words.proofs.scans.chunk_same.Goals as goal
+
+pub loop-j-init : goal.loop-j-init
+unfolding all_from
+loop-j-init c = (omega arith, refl)
+
+pub loop-j-preserved : goal.loop-j-preserved
+loop-j-preserved c = (omega arith, differs-on _ _ _ c.loop-j.d c.differing-d.result _ c.loop-j.invariant.1 (same_test _ _ _) c.differing-d.ensures)
+
+pub returns : goal.returns
+returns c = let e : c.loop-j.j ≡ c.args.n = omega (arith, c.loop-j.invariant.0) in rw e at c.loop-j.invariant.1

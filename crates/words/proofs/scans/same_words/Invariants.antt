@@ -1,0 +1,13 @@
+use Rattle.words.proofs.ScanLaws.{pass-none, pass-one}
+use Rattle.words.proofs.WriteLaws.{is_same, is-other}
+use Rattle.words.specs.Inner.{same_in, PassTo}
+use native.Mathlib.Omega.{arith}
+use Prim.Native.Nat.{◌-◌}
+use borrow.Author.Rules.{rules}
+use Rattle.words.proofs.scans.same_words.Given as goal
+
+abbrev pub invariant-loop-g : goal.invariant-loop-g
+invariant-loop-g l = PassTo (same_in l.words l.v) l.from l.end l.g
+
+abbrev pub decreases-loop-g : goal.decreases-loop-g
+decreases-loop-g l = l.end - l.g

@@ -1,0 +1,17 @@
+use borrow.Author.Rules.{rules}
+use Rattle.words.specs.Inner.{ChangedTo}
+use Rattle.words.proofs.WriteLaws.{change-none, change-more, all-copied}
+use mathlib.Core.Path.{◌≡◌, refl}
+use Prim.Native.Nat.{◌≤◌, ◌-◌}
+use native.Mathlib.Omega.{arith}
+use lib.ListN.{length, length-set, get_or}
+use Rattle.words.proofs.writes.copy.Goals as goal
+
+pub loop-g-init : goal.loop-g-init
+loop-g-init c = (omega arith, (refl, change-none _ _ _))
+
+pub loop-g-preserved : goal.loop-g-preserved
+loop-g-preserved c = (omega arith, (simp length-set (omega arith), change-more _ _ _ _ _ _ (omega arith) (omega arith) refl c.loop-g.invariant.1.1))
+
+pub returns : goal.returns
+returns c = all-copied _ _ _ _ c.loop-g.invariant.1.1 (omega arith) (omega arith)
