@@ -11,7 +11,7 @@ use Rattle.words.specs.Counts.{one-if}
 use Rattle.words.proofs.Cases.{by-test, by-dec, true-false}
 use Rattle.runs.specs.PageWords.{mapped, is_page_word}
 use Rattle.runs.specs.Walk.{joins, goes_on, run_after, bit_word, bits_from, with_bits, ended, entry_of, entries_from, entries, range_words, lawful_ranges}
-use Rattle.runs.proofs.WordLaws.{zero-unmapped, bit-none, joins_at, join, not-joins, like-bit, bit-bit, bit_word, goes-join, goes-new}
+use Rattle.runs.proofs.WordLaws.{zero-unmapped, bit-none, joins_at, join, not-joins, like-bit, bit-bit, bit_word_lem, goes-join, goes-new}
 use Rattle.runs.proofs.WalkLaws.{goes_some, after-cons, after_stop, ended-on, ended-short, ended-long, whole, bit_at, with_bits_at, length-with_bits}
 use Rattle.runs.proofs.CheckLaws.{at-lawful}
 
@@ -126,7 +126,7 @@ pub renewed-lawful : (ws : List ℕ) → ((p : ℕ) → p < length ws → is_pag
 unfolding bit_at
 renewed-lawful ws layout =
     at-lawful (with_bits ws) (range_words ws) (record {
-      layout = λ p h. let lt : p < length ws = omega (arith, length-with_bits ws) in rw (with_bits_at ws p lt) (bit_word (leb 8 (whole ws (suc p))) (get_or ws p 0) (layout p lt));
+      layout = λ p h. let lt : p < length ws = omega (arith, length-with_bits ws) in rw (with_bits_at ws p lt) (bit_word_lem (leb 8 (whole ws (suc p))) (get_or ws p 0) (layout p lt));
       pages = sym (bits-again ws);
       ranges = sym (ranges-again ws);
     })

@@ -61,6 +61,7 @@ module _ (ws : List ℕ) where
 
   has_base : {a : ℕ} {l : List ℕ} (t : Table ws a l) (z y : ℕ) → Has z y l → base_in t z ≡ true
   unfolding base_in
+  has_base (nothing {a = a}) z e h = elim h [ ]
   has_base (entry x y o r lo eight g w t) z e here = rw (eq-eqb z z refl, base_in)
   has_base (entry x y o r lo eight g w t) z e (later h) =
       by-test (eqb z x)

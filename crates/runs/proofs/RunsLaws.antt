@@ -20,7 +20,7 @@ use Rattle.runs.specs.Running.{RunningLength, in-run, in-none}
 use Rattle.runs.specs.Walk.{joins, goes_on, run_after, bit_word, with_bits, ended, entry_of, entries_from, entries}
 use Rattle.runs.proofs.OffsetLaws.{offset-back, sub-lt}
 use Rattle.runs.proofs.WordLaws.{frame-lt, joins_at, join, goes-join, goes-new}
-use Rattle.runs.proofs.WalkLaws.{word_before, run_before, before-suc, goes_on, before-le, back, whole, whole-step, whole-end, whole-last, whole_back, bit_at, with_bits_at, entries-suc, entries-end, ended-short, ended-long, ended-on, last-mapped, last_none, before-word}
+use Rattle.runs.proofs.WalkLaws.{word_before, run_before, before-suc, goes_on_lem, before-le, back, whole, whole-step, whole-end, whole-last, whole_back, bit_at, with_bits_at, entries-suc, entries-end, ended-short, ended-long, ended-on, last-mapped, last_none, before-word}
 
 module _ (ws : List ℕ) where
   abbrev word : ℕ → ℕ
@@ -158,7 +158,7 @@ module _ (ws : List ℕ) where
       record {
         run = joins-run x i (omega arith) fits m (λ p lo hi.
             let two : run_before ws (suc (suc p)) ≡ run_before ws i - (i - suc (suc p)) = down (suc (suc p)) (omega arith) (omega arith) in
-            let t = goes_on (run_before ws (suc p)) (word_before ws (suc p)) (word (suc p)) (omega (arith, before-suc ws (suc p))) in
+            let t = goes_on_lem (run_before ws (suc p)) (word_before ws (suc p)) (word (suc p)) (omega (arith, before-suc ws (suc p))) in
             rw (last-is p) at t);
         start = λ h.
             by-test (joins (word (x - 1)) (word x))

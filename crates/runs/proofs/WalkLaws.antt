@@ -54,8 +54,8 @@ goes_some n v w h =
     (λ t. let o : one-if (mapped w) ≡ 0 = rw m in absurd (omega (arith, goes-new n v w t))))
 
 -- a running length above 1 goes on
-pub goes_on : (n v w : ℕ) → 1 < goes_on n v w → joins v w ≡ true
-goes_on n v w h = by-test (joins v w) (λ t. t) (λ t. absurd (omega (arith, goes-new n v w t, one-if-le (mapped w))))
+pub goes_on_lem : (n v w : ℕ) → 1 < goes_on n v w → joins v w ≡ true
+goes_on_lem n v w h = by-test (joins v w) (λ t. t) (λ t. absurd (omega (arith, goes-new n v w t, one-if-le (mapped w))))
 
 pub before-le : (ws : List ℕ) (i : ℕ) → run_before ws i ≤ i
 unfolding run_before
@@ -68,7 +68,7 @@ back ws zero i h = rw (zero-add i) (omega arith)
 back ws (suc d) i h =
     let e : suc d + i ≡ suc (d + i) = omega arith in
     let s : run_before ws (suc d + i) ≡ goes_on (run_before ws (d + i)) (word_before ws (d + i)) (get_or ws (d + i) 0) = ap (run_before ws) e ∙ before-suc ws (d + i) in
-    let j = goes_on (run_before ws (d + i)) (word_before ws (d + i)) (get_or ws (d + i) 0) (omega arith) in
+    let j = goes_on_lem (run_before ws (d + i)) (word_before ws (d + i)) (get_or ws (d + i) 0) (omega arith) in
     let m = goes-join (run_before ws (d + i)) _ _ j in
     omega (arith, back ws d i (omega (arith, m)), m)
 
@@ -115,7 +115,7 @@ whole_back ws zero i f h = rw (zero-add i)
 whole_back ws (suc d) i f h =
     let e : suc d + i ≡ suc (d + i) = omega arith in
     let s : run_before ws (suc d + i) ≡ goes_on (run_before ws (d + i)) (word_before ws (d + i)) (get_or ws (d + i) 0) = ap (run_before ws) e ∙ before-suc ws (d + i) in
-    let j = goes_on (run_before ws (d + i)) (word_before ws (d + i)) (get_or ws (d + i) 0) (omega arith) in
+    let j = goes_on_lem (run_before ws (d + i)) (word_before ws (d + i)) (get_or ws (d + i) 0) (omega arith) in
     let m = goes-join (run_before ws (d + i)) _ _ j in
     whole_back ws d i (omega arith) (omega (arith, m)) ∙ sym (whole-step ws (d + i) (omega arith) j) ∙ ap (whole ws) (sym e)
 

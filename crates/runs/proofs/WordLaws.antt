@@ -211,8 +211,8 @@ pub own-bit : (w : ℕ) → is_page_word w ≡ true → w ≡ bit_word (range_bi
 own-bit w t = word-cases w t (λ z. z ∙ sym (bit-none (range_bit w) w (zero-unmapped w z))) (λ m. bit-of w m)
 
 -- a word stays of the layout with another range bit
-pub bit_word : (b : Bool) (w : ℕ) → is_page_word w ≡ true → is_page_word (bit_word b w) ≡ true
-bit_word b w t =
+pub bit_word_lem : (b : Bool) (w : ℕ) → is_page_word w ≡ true → is_page_word (bit_word b w) ≡ true
+bit_word_lem b w t =
     let k = like-bit b w in
     word-says w t
     (λ z. zero_word _ (bit-none b w (zero-unmapped w z)))

@@ -1,4 +1,5 @@
 // Virtual pages. Definitions and laws of page words, runs and ranges stand in specs/ and proofs/; the code is the crate `ranges`.
+#![tactic(auto)]
 
 // Spaces 0 to 3, each with pages 0 to 1,023.
 pub const SPACES: u32 = 4;

@@ -1,0 +1,17 @@
+use borrow.Author.Rules.{rules}
+use Rattle.words.specs.Inner.{CountedUp}
+use Rattle.words.proofs.WriteLaws.{change-none, change-more}
+use mathlib.Core.Path.{◌≡◌, refl}
+use Prim.Native.Nat.{◌≤◌, ◌-◌, ◌+◌}
+use native.Mathlib.Omega.{arith}
+use lib.ListN.{length, length-set}
+use Rattle.framewords.proofs.buffer.count_up.Goals as goal
+
+pub loop-g-init : goal.loop-g-init
+loop-g-init c = (omega arith, (omega arith, (refl, (omega arith, change-none _ _ _))))
+
+pub loop-g-preserved : goal.loop-g-preserved
+loop-g-preserved c = (omega arith, (omega arith, (simp length-set (omega arith), (omega arith, change-more _ _ _ _ _ _ (omega arith) (omega arith) c.loop-g.invariant.1.1.1.0 c.loop-g.invariant.1.1.1.1))))
+
+pub returns : goal.returns
+returns c = let e : c.loop-g.g ≡ c.args.end = omega arith in rw (← e) c.loop-g.invariant.1.1.1.1
