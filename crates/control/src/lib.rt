@@ -1,4 +1,5 @@
 // The control buffer: its fields, whether it is lawful, and what the calls write into it.
+#![tactic(auto)]
 ghost use Rattle.std.specs.Prelude.{◌≡◌, true, false, ◌+◌, ◌^◌, ◌≤◌, ◌<◌, length};
 ghost use Rattle.words.specs.Wrapping.{largest_word};
 ghost use Rattle.runs.specs.PageWords.{last_space};

@@ -1,0 +1,8 @@
+use borrow.Author.Rules.{rules}
+use Prim.Native.Nat.{◌-◌}
+use Rattle.control.specs.Control.{open_mask}
+use Rattle.control.proofs.open_mask.Goals as goal
+
+pub returns : goal.returns
+unfolding open_mask
+returns c = search rules
