@@ -1,4 +1,5 @@
 // The types of the range tree. Definitions and laws stand in specs/ and proofs/; the code is in the crates above.
+#![tactic(auto)]
 
 // The words of a tree's buffer: the number of its root, then 64 nodes of 24 words. Code that reads or writes them has these numbers as they stand in the layout.
 pub const TREE_WORDS: usize = 1537;
