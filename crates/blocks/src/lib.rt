@@ -26,25 +26,25 @@ pub const ORDERS: u32 = 11;
 pub const MARK_WORDS: usize = 129;
 
 // A frame number. A virtual page number never stands in its place.
-#[derive(Drop)]
+#[derive(Clone, Copy)]
 pub struct Frame(pub u32);
 
 // A block of 2 to the power `order` frames from `start` on.
-#[derive(Drop)]
+#[derive(Clone, Copy)]
 pub struct Block {
     pub start: Frame,
     pub order: u32,
 }
 
 // What earlier searches have shown: no free block has an order above `limit`, and none of that order starts below `from`.
-#[derive(Drop)]
+#[derive(Clone, Copy)]
 pub struct Bound {
     pub limit: u32,
     pub from: Frame,
 }
 
 // A block, and the order of the free block in which it lies.
-#[derive(Drop)]
+#[derive(Clone, Copy)]
 pub struct Cut {
     pub block: Block,
     pub top: u32,
