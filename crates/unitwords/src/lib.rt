@@ -162,7 +162,7 @@ fn write_ranges(words: &mut [u32], u: Unit)
 pub fn write_unit(words: &mut [u32], u: Unit)
     requires { length words.old ≡ words_in_unit }
     ensures words_after { words.new ≡ words_of u }
-    ensures words_after_2 { unit_of words.new ≡ u }
+    ensures reads_back { unit_of words.new ≡ u }
 {
     write_pages(&mut words[0..RANGES_FROM], u);
     write_ranges(&mut words[RANGES_FROM..LAST_AT], u);

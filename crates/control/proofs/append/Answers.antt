@@ -6,7 +6,7 @@ use Rattle.control.proofs.ControlLaws.{append-is}
 use Rattle.control.proofs.append.Goals as goal
 
 pub next_number-m-requires : goal.next_number-m-requires
-next_number-m-requires c = λ e. c.requires.fact (sym c.removal_count.ensures ∙ e)
+next_number-m-requires c = λ e. c.requires.number_left (sym c.removal_count.ensures ∙ e)
 
 pub word_of_place-at-requires : goal.word_of_place-at-requires
 word_of_place-at-requires c = omega arith

@@ -10,4 +10,4 @@ returns c =
     let ps : length u.pages ≡ 64 = c.well_formed.1.0.1.1.0.1.0.1 in
     let rs : length u.ranges ≡ 32 = c.well_formed.1.0.1.1.1.0.1.0.1 in
     let w = write-all u ps rs c.args.words.now _ _ _ c.requires c.write_pages.ensures c.write_ranges.ensures c.write_last.ensures in
-    record { words_after = w; words_after_2 = same-unit u ps rs _ w }
+    record { words_after = w; reads_back = same-unit u ps rs _ w }
