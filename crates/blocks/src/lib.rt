@@ -75,7 +75,7 @@ pub enum PoolCall {
 }
 
 // What a call on the pool answers: its first value, or why it is refused.
-#[derive(Drop)]
+#[derive(Clone, Copy)]
 pub enum Reply {
     Done(u32),
     WrongLength,
