@@ -1,4 +1,6 @@
 // Insertion into a range tree: down to a leaf, and back, parting full nodes. A node and the descent below it call each other, one level lower each time.
+#![tactic(auto)]
+
 ghost use Rattle.std.specs.Prelude.{true, false, ◌≡◌, ◌≤◌, length};
 ghost use Rattle.trees.specs.Ranges.{proper, overlaps};
 ghost use Rattle.trees.specs.Nodes.{count_in, range_in, child_in};

@@ -53,7 +53,7 @@ lookup-order b p = refl
 
 keeps-demands : (w : Row (List ℕ)) → in_order w.refusals ≡ true → KeepsDemands w
 unfolding number_of
-keeps-demands w i = record { in_order_lem = i; exactly = rw (number_is w) (exactly w.refusals i); alters-nothing = λ old o left d f. (refused-zeros w old o left d f, refused-leaves w old o left d f) }
+keeps-demands w i = record { ordered = i; exactly = rw (number_is w) (exactly w.refusals i); alters-nothing = λ old o left d f. (refused-zeros w old o left d f, refused-leaves w old o left d f) }
 
 pub calls-keep-demands : CallsKeepDemands
 unfolding CallsKeepDemands

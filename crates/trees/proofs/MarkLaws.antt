@@ -15,7 +15,7 @@ use Rattle.trees.specs.declared.Walk.{Walk}
 use Rattle.trees.specs.Ranges.{proper}
 use Rattle.trees.specs.Nodes.{count_in, range_in, child_in}
 use Rattle.trees.specs.Trees.{Tree, along, in_row, contents, nodes, besides, branches, tree_at, occ}
-use Rattle.trees.specs.Inner.Spans.{Between, one, Proper}
+use Rattle.trees.specs.Inner.Spans.{Between, Proper}
 use Rattle.trees.specs.Inner.Walk.{failed, met, passed, enters, visit_from, visit}
 use Rattle.trees.specs.Inner.Standing.{Stands}
 use Rattle.trees.proofs.RangeLaws.{around, between_le, lower, proper-head, proper-left, proper-right}

@@ -35,6 +35,7 @@ module _ {A : Type 0} (g : A → List Range) (p : ℕ) where
 
   -- one of its ranges has the page
   branch-within : (a : A) (bs : List (Branch A)) (lo hi : ℕ) → Between lo (row_of a bs) hi → InBranch p bs → (lo ≤ p) × (p < hi)
+  branch-within a [] lo hi m b = elim b [ ]
   branch-within a (x ∷ xs) lo hi m (this-range c) =
       let q = at_first a x xs lo hi m in let l = between_le q.left in let r = between_le q.right in
       let k = page-in x.range p c in let i = k.0 in let j = k.1 in
@@ -43,6 +44,7 @@ module _ {A : Type 0} (g : A → List Range) (p : ℕ) where
 
   branch-path : (f : A → ℕ) (a : A) (bs : List (Branch A)) (lo hi : ℕ) → Between lo (row_of a bs) hi → InBranch p bs → path_along f p a bs ≡ 0
   unfolding path_along
+  branch-path f a [] lo hi m b = elim b [ ]
   branch-path f a (x ∷ xs) lo hi m (this-range c) = let k = page-in x.range p c in rw (lt-ltb p x.range.limit k.1, le-leb x.range.base p k.0)
   branch-path f a (x ∷ xs) lo hi m (later-range c) =
       let r = (at_first a x xs lo hi m).right in
@@ -53,6 +55,7 @@ module _ {A : Type 0} (g : A → List Range) (p : ℕ) where
     child-within : (a : A) (bs : List (Branch A)) (lo hi : ℕ) → Between lo (row_of a bs) hi → P a ⊎ InChild P bs → (lo ≤ p) × (p < hi)
     unfolding along
     child-within a [] lo hi m (inl c) = known a lo hi (rw (append-nil (g a)) at m) c
+    child-within a [] lo hi m (inr c) = elim c [ ]
     child-within a (x ∷ xs) lo hi m (inl c) =
         let q = at_first a x xs lo hi m in let s = q.some in let r = between_le q.right in
         let k = known a lo x.range.base q.left c in let i = k.1 in
@@ -67,6 +70,7 @@ module _ {A : Type 0} (g : A → List Range) (p : ℕ) where
       child-path : (a : A) (bs : List (Branch A)) (lo hi : ℕ) → Between lo (row_of a bs) hi → P a ⊎ InChild P bs → path_along f p a bs ≡ d
       unfolding along path_along
       child-path a [] lo hi m (inl c) = goes a lo hi (rw (append-nil (g a)) at m) c
+      child-path a [] lo hi m (inr c) = elim c [ ]
       child-path a (x ∷ xs) lo hi m (inl c) =
           let q = at_first a x xs lo hi m in let s = q.some in let k = known a lo x.range.base q.left c in let i = k.1 in
           rw (lt-ltb p x.range.limit (omega arith), lt-leb x.range.base p i) (goes a lo x.range.base q.left c)
@@ -77,11 +81,15 @@ module _ {A : Type 0} (g : A → List Range) (p : ℕ) where
 
 stands-within : (p h : ℕ) (t : Tree h) (d lo hi : ℕ) → Between lo (contents h t) hi → StandsAt p h t d → (lo ≤ p) × (p < hi)
 unfolding contents in_row
+stands-within p zero t d lo hi m s = elim s [ ]
+stands-within p (suc h) t zero lo hi m s = elim s [ ]
 stands-within p (suc h) t (suc zero) lo hi m s = branch-within (contents h) p t.row.first t.row.rest lo hi m s
 stands-within p (suc h) t (suc (suc d)) lo hi m s = child-within (contents h) p (λ (c : Tree h). StandsAt p h c (suc d)) (λ c l k. stands-within p h c (suc d) l k) t.row.first t.row.rest lo hi m s
 
 stands-path : (p h : ℕ) (t : Tree h) (d lo hi : ℕ) → Between lo (contents h t) hi → StandsAt p h t d → path_length p h t ≡ d
 unfolding contents in_row path_length
+stands-path p zero t d lo hi m s = elim s [ ]
+stands-path p (suc h) t zero lo hi m s = elim s [ ]
 stands-path p (suc h) t (suc zero) lo hi m s = let k = branch-path (contents h) p (path_length p h) t.row.first t.row.rest lo hi m s in omega arith
 stands-path p (suc h) t (suc (suc d)) lo hi m s =
     let k = child-path (contents h) p (λ (c : Tree h). StandsAt p h c (suc d)) (λ c l u. stands-within p h c (suc d) l u) (path_length p h) (suc d) (λ c l u. stands-path p h c (suc d) l u) t.row.first t.row.rest lo hi m s in
@@ -90,6 +98,7 @@ stands-path p (suc h) t (suc (suc d)) lo hi m s =
 -- Where a range has the page, it stands somewhere
 
 child-some : {A : Type 0} (P : A → Type 0) (Q : A → ℕ → Type 0) → ((c : A) → P c → (d : ℕ) × Q c d) → (bs : List (Branch A)) → InChild P bs → (d : ℕ) × InChild (λ (c : A). Q c d) bs
+child-some P Q known [] c = elim c [ ]
 child-some P Q known (x ∷ xs) (this-child c) = let k = known x.child c in (k.0, this-child k.1)
 child-some P Q known (x ∷ xs) (later-child c) = let k = child-some P Q known xs c in (k.0, later-child k.1)
 

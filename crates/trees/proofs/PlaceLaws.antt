@@ -89,13 +89,32 @@ row-path e d i = record { first = e i; rest = d i }
 -- An insertion into the row of k ranges from place i on
 
 module _ {A : Type 0} (g : A → Grown A) (b : ℕ) (r : ℕ → Range) (T : ℕ → A) where
+  -- with the child at place s replaced, and with a range and a child behind it
+  abbrev Whole : (k i : ℕ) → A → ℕ → Row A
+  Whole k i a s = record { first = placed T s a i; rest = branches r (placed T s a) k i }
+
+  abbrev Parts : (k i : ℕ) → A → Range → A → ℕ → Row A
+  Parts k i a q c s = record { first = opened (placed T s a) (suc s) c i; rest = branches (opened r s q) (opened (placed T s a) (suc s) c) (suc k) i }
+
   pub row-whole : (k i : ℕ) (a : A) → g (T (slot_by r b k i)) ≡ whole a → insert_row g b (T i) (branches r T k i) ≡ record { first = placed T (slot_by r b k i) a i; rest = branches r (placed T (slot_by r b k i) a) k i }
   unfolding branches insert_row slot_by spread before
   row-whole zero i a e = rw e (row-path (sym (placed-here T i a)) refl)
   row-whole (suc k) i a e =
       by-test (ltb b (r i).base)
-      (λ t. rw t (let d : g (T i) ≡ whole a = rw t at e in rw d (row-path (sym (placed-here T i a)) (branches-ext r r T (placed T i a) (suc k) i (λ j lo hi. refl) (λ j lo hi. sym (placed-other T i a j (λ x. omega arith)))))))
-      (λ t. rw t (let h = slot_by-ge r b k (suc i) in let d : g (T (slot_by r b k (suc i))) ≡ whole a = rw t at e in rw (row-whole k (suc i) a d) (row-path (sym (placed-other T (slot_by r b k (suc i)) a i (λ x. omega arith))) refl)))
+      (λ t.
+      let d : g (T i) ≡ whole a = rw t at e in
+      let taken : insert_row g b (T i) (branches r T (suc k) i) ≡ record { first = a; rest = branches r T (suc k) i } = rw (t, d) in
+      let here : slot_by r b (suc k) i ≡ i = rw t in
+      taken
+      ∙ row-path (sym (placed-here T i a)) (branches-ext r r T (placed T i a) (suc k) i (λ j lo hi. refl) (λ j lo hi. sym (placed-other T i a j (λ x. omega arith))))
+      ∙ ap (Whole (suc k) i a) (sym here))
+      (λ t.
+      let h = slot_by-ge r b k (suc i) in
+      let s : ℕ = slot_by r b k (suc i) in
+      let d : g (T s) ≡ whole a = rw t at e in
+      let taken : insert_row g b (T i) (branches r T (suc k) i) ≡ record { first = T i; rest = record { range = r i; child = placed T s a (suc i) } ∷ branches r (placed T s a) k (suc i) } = rw (t, row-whole k (suc i) a d) in
+      let there : slot_by r b (suc k) i ≡ s = rw t in
+      taken ∙ row-path (sym (placed-other T s a i (λ x. omega arith))) refl ∙ ap (Whole (suc k) i a) (sym there))
 
   pub row-parts : (k i : ℕ) (a : A) (q : Range) (c : A) → g (T (slot_by r b k i)) ≡ parts a q c
       → insert_row g b (T i) (branches r T k i) ≡ record { first = opened (placed T (slot_by r b k i) a) (suc (slot_by r b k i)) c i; rest = branches (opened r (slot_by r b k i) q) (opened (placed T (slot_by r b k i) a) (suc (slot_by r b k i)) c) (suc k) i }
@@ -104,13 +123,24 @@ module _ {A : Type 0} (g : A → Grown A) (b : ℕ) (r : ℕ → Range) (T : ℕ
       rw e (row-path (sym (opened-low (placed T i a) (suc i) c i (omega arith) ∙ placed-here T i a)) (ap₂ ◌∷◌ (branch-path (sym (opened-here r i q)) (sym (opened-here (placed T i a) (suc i) c))) refl))
   row-parts (suc k) i a q c e =
       by-test (ltb b (r i).base)
-      (λ t. rw t (let d : g (T i) ≡ parts a q c = rw t at e in rw d (row-path (sym (opened-low (placed T i a) (suc i) c i (omega arith) ∙ placed-here T i a))
+      (λ t.
+      let d : g (T i) ≡ parts a q c = rw t at e in
+      let taken : insert_row g b (T i) (branches r T (suc k) i) ≡ record { first = a; rest = record { range = q; child = c } ∷ branches r T (suc k) i } = rw (t, d) in
+      let here : slot_by r b (suc k) i ≡ i = rw t in
+      taken
+      ∙ row-path (sym (opened-low (placed T i a) (suc i) c i (omega arith) ∙ placed-here T i a))
       (ap₂ ◌∷◌ (branch-path (sym (opened-here r i q)) (sym (opened-here (placed T i a) (suc i) c)))
-      (sym (branches-behind r (opened r i q) T (opened (placed T i a) (suc i) c) (suc k) i (λ j lo. opened-next r i q j lo) (λ j lo. opened-next (placed T i a) (suc i) c j lo ∙ placed-other T i a j (λ x. omega arith))))))))
-      (λ t. rw t (let h = slot_by-ge r b k (suc i) in let s : ℕ = slot_by r b k (suc i) in let d : g (T (slot_by r b k (suc i))) ≡ parts a q c = rw t at e in
-      rw (row-parts k (suc i) a q c d)
-      (row-path (sym (opened-low (placed T s a) (suc s) c i (omega arith) ∙ placed-other T s a i (λ x. omega arith)))
-      (ap₂ ◌∷◌ (branch-path (sym (opened-low r s q i (omega arith))) refl) refl))))
+      (sym (branches-behind r (opened r i q) T (opened (placed T i a) (suc i) c) (suc k) i (λ j lo. opened-next r i q j lo) (λ j lo. opened-next (placed T i a) (suc i) c j lo ∙ placed-other T i a j (λ x. omega arith)))))
+      ∙ ap (Parts (suc k) i a q c) (sym here))
+      (λ t.
+      let h = slot_by-ge r b k (suc i) in
+      let s : ℕ = slot_by r b k (suc i) in
+      let d : g (T s) ≡ parts a q c = rw t at e in
+      let taken : insert_row g b (T i) (branches r T (suc k) i) ≡ record { first = T i; rest = record { range = r i; child = opened (placed T s a) (suc s) c (suc i) } ∷ branches (opened r s q) (opened (placed T s a) (suc s) c) (suc k) (suc i) } = rw (t, row-parts k (suc i) a q c d) in
+      let there : slot_by r b (suc k) i ≡ s = rw t in
+      taken
+      ∙ row-path (sym (opened-low (placed T s a) (suc s) c i (omega arith) ∙ placed-other T s a i (λ x. omega arith))) (ap₂ ◌∷◌ (branch-path (sym (opened-low r s q i (omega arith))) refl) refl)
+      ∙ ap (Parts (suc k) i a q c) (sym there))
 
 -- Sums
 

@@ -132,6 +132,7 @@ module _ (ws : List ℕ) where
   module _ (p : ℕ) where
     has-held : {a : ℕ} {l : List ℕ} (t : Table ws a l) (x y : ℕ) → Has x y l → x ≤ p → p < y → held (table_ranges t) p ≡ true
     unfolding table_ranges held
+    has-held nothing a b h lo hi = elim h [ ]
     has-held (entry x y o r low eight g w t) a b here lo hi = rw (covered (record { base = x; limit = y; offset = o; rights = r }) p lo hi)
     has-held (entry x y o r low eight g w t) a b (later h) lo hi =
         by-test (covers (record { base = x; limit = y; offset = o; rights = r }) p)

@@ -102,11 +102,12 @@ module _ {A : Type 0} (r : ℕ → Range) (T : ℕ → Node A) where
     mend-two X s Y e (suc k) i zero at l =
         let d : p ≡ i = omega arith in
         let t = rw d at bad in let f = rw d at e in
-        rw (t, f, d)
+        rw (t, f)
         (row-path (sym (placed-other (placed T i X) (suc i) Y i (λ x. omega arith) ∙ placed-here T i X))
         (ap₂ ◌∷◌ (branch-path (sym (placed-here r i s)) (sym (placed-here (placed T i X) (suc i) Y)))
         (branches-ext r (placed r i s) T (placed (placed T i X) (suc i) Y) k (suc i) (λ j u v. sym (placed-other r i s j (λ x. omega arith)))
-        (λ j u v. sym (placed-other (placed T i X) (suc i) Y j (λ x. omega arith) ∙ placed-other T i X j (λ x. omega arith))))))
+        (λ j u v. sym (placed-other (placed T i X) (suc i) Y j (λ x. omega arith) ∙ placed-other T i X j (λ x. omega arith)))))
+        ∙ ap (λ y. record { first = placed (placed T y X) (suc y) Y i; rest = branches (placed r y s) (placed (placed T y X) (suc y) Y) (suc k) i }) (sym d))
     mend-two X s Y e (suc k) i (suc j) at l =
         rw (mend-two X s Y e k (suc i) j (omega arith) (omega arith))
         (row-path (sym (placed-other (placed T p X) (suc p) Y i (λ x. omega arith) ∙ placed-other T p X i (λ x. omega arith)))
@@ -222,7 +223,9 @@ take-branch r T c (suc k) i s p e in-it last =
     (ap₂ ◌∷◌ (branch-path (sym (closed-low r p i x)) (sym (closed-low T (suc p) (suc i) (omega arith)))) (ap (λ (y : Taken (List (Branch _))). y.left) h))))
     (λ t. let d : s ≡ i = sym (rw t at e) in
     let x : p ≡ i = let y = in-it (omega arith) in omega arith in
-    rw (t, x) (taken-path refl (sym (branches-closed r T (suc k) i))))
+    rw t
+    (taken-path refl (sym (branches-closed r T (suc k) i))
+    ∙ ap (λ y. record { range = r y; left = branches (closed r y) (closed T (suc y)) (suc k) i }) (sym x)))
   where
     after : (i k s p : ℕ) → suc i ≤ s → s ≤ suc i + suc k → (s < i + suc (suc k) → p ≡ s) → (s ≡ i + suc (suc k) → p ≡ i + suc k) → i < p
     after i k s p lo hi a b = by-dec (dec_lt s (i + suc (suc k))) (λ l. let y = a l in omega arith) (λ l. let y = b (omega arith) in omega arith)
@@ -255,11 +258,13 @@ module _ {A : Type 0} (g : Node A → Taken (Node A)) (c : ℕ) (r : ℕ → Ran
   take-mid zero i j s e at l =
       by-test (ltb (r i).base c)
       (λ t. let d : s ≡ suc i = sym (rw t at e) in absurd (omega arith))
-      (λ t. let d : s ≡ i = sym (rw t at e) in let x : j ≡ 0 = omega arith in rw (t, d, x) (take-first zero i))
+      (λ t. let d : s ≡ i = sym (rw t at e) in let x : j ≡ 0 = omega arith in
+      rw (t, x) (take-first zero i ∙ ap (λ y. record { range = Out y; left = mend_row zero (Less y i) (branches (In y) (Less y) 1 i) }) (sym d)))
   take-mid (suc k) i zero s e at l =
       by-test (ltb (r i).base c)
       (λ t. let d : slot_under r c (suc k) (suc i) ≡ s = rw t at e in let u = under-ge r c (suc k) (suc i) in absurd (omega arith))
-      (λ t. let d : s ≡ i = sym (rw t at e) in rw (t, d) (take-first (suc k) i))
+      (λ t. let d : s ≡ i = sym (rw t at e) in
+      rw t (take-first (suc k) i ∙ ap (λ y. record { range = Out y; left = mend_row zero (Less y i) (branches (In y) (Less y) (suc (suc k)) i) }) (sym d)))
   take-mid (suc k) i (suc j) s e at l =
       by-test (ltb (r i).base c)
       (λ t. let d : slot_under r c (suc k) (suc i) ≡ s = rw t at e in

@@ -76,7 +76,7 @@ RemovalFixed = (t : Rooted) (base : ℕ) → LawfulTree t → holds_base base (c
 
 -- a call's row keeps demands 1 and 2: "on refusal returns the refusal's number with zeros and alters nothing that was lent"; "each refusal comes when its condition holds and none before it applies, and at no other time"
 pub record KeepsDemands (w : Row (List ℕ)) : Type 0 where
-  pub in_order_lem : in_order w.refusals ≡ true
+  pub ordered : in_order w.refusals ≡ true
   pub exactly : Exactly w.refusals (outcome_of w).number
   pub alters-nothing : (old : List ℕ) (o : Outcome) (left : List ℕ) → Promised w old o left → accepted o ≡ false → (o ≡ refusal o.number) × (left ≡ old)
 

@@ -1,4 +1,5 @@
 // The types of the range tree. Definitions and laws stand in specs/ and proofs/; the code is in the crates above.
+#![tactic(auto)]
 
 // The words of a tree's buffer: the number of its root, then 64 nodes of 24 words. Code that reads or writes them has these numbers as they stand in the layout.
 pub const TREE_WORDS: usize = 1537;
@@ -7,7 +8,7 @@ pub const TREE_WORDS: usize = 1537;
 pub const NO_ROOT: u32 = 64;
 
 // A range as the list has it: pages from BASE up to LIMIT, LIMIT left out; the frame of page p is p + OFFSET modulo 2 to the power 32.
-#[derive(Drop)]
+#[derive(Clone, Copy, Drop)]
 pub struct Range {
     pub base: u32,
     pub limit: u32,
@@ -23,7 +24,7 @@ pub struct Path {
 }
 
 // How far a check of the tree has come: whether all is lawful so far, the lowest BASE that may follow, and the nodes met, 1 for each.
-#[derive(Drop)]
+#[derive(Clone, Copy, Drop)]
 pub struct Walk {
     pub ok: bool,
     pub low: u32,
@@ -39,7 +40,7 @@ pub struct Up {
 }
 
 // Ranges and children that are to stand in one node or two: at most six and seven are, with a place to spare.
-#[derive(Drop)]
+#[derive(Clone, Copy, Drop)]
 pub struct Line {
     pub ranges: [Range; 7],
     pub kids: [u32; 8],

@@ -1,13 +1,12 @@
-use borrow.Author.Rules.{rules}
 use mathlib.Core.Path.{sym, ap, ◌∙◌}
-use Prim.Native.Nat.{ℕ, ◌-◌, ◌+◌}
+use Prim.Native.Nat.{ℕ, ◌+◌}
 use native.Mathlib.Omega.{arith}
 use lib.ListN.{length-set}
 use Rattle.control.proofs.ControlLaws.{append-is}
 use Rattle.control.proofs.append.Goals as goal
 
 pub next_number-m-requires : goal.next_number-m-requires
-next_number-m-requires c = λ e. c.requires.fact (sym c.removal_count.ensures ∙ e)
+next_number-m-requires c = λ e. c.requires.number_left (sym c.removal_count.ensures ∙ e)
 
 pub word_of_place-at-requires : goal.word_of_place-at-requires
 word_of_place-at-requires c = omega arith

@@ -1,6 +1,4 @@
-use borrow.Author.Rules.{rules}
 use Rattle.words.proofs.PowerLaws.{shift_one}
-use Prim.Native.Nat.{◌-◌}
 use native.Mathlib.Omega.{arith}
 use Rattle.control.proofs.MaskLaws.{bit-size}
 use Rattle.control.proofs.bit_of.Goals as goal

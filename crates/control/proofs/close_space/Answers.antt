@@ -1,6 +1,4 @@
-use borrow.Author.Rules.{rules}
 use mathlib.Core.Path.{refl}
-use Prim.Native.Nat.{◌-◌}
 use native.Mathlib.Omega.{arith}
 use Rattle.control.specs.Control.{with_mask, with_closed}
 use Rattle.control.proofs.MaskLaws.{bit_below}

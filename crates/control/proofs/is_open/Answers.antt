@@ -1,4 +1,3 @@
-use borrow.Author.Rules.{rules}
 use mathlib.Core.Path.{refl}
 use Rattle.words.specs.Bits.{has_bit}
 use Rattle.control.specs.Control.{is_open}

@@ -1,4 +1,3 @@
-use Prim.Native.Nat.{◌-◌}
 use native.Mathlib.Omega.{arith}
 use Rattle.control.proofs.ControlLaws.{used_all, used-zero, used_low}
 use Rattle.control.proofs.is_used.Goals as goal

@@ -1,5 +1,4 @@
 use borrow.Author.Rules.{rules}
-use Prim.Native.Nat.{◌-◌}
 use Rattle.control.specs.Control.{open_mask}
 use Rattle.control.proofs.open_mask.Goals as goal
 

@@ -1,6 +1,4 @@
-use borrow.Author.Rules.{rules}
 use mathlib.Core.Path.{refl}
-use Prim.Native.Nat.{◌-◌}
 use Rattle.control.specs.Control.{with_mask, with_opened}
 use Rattle.control.proofs.open_space.Goals as goal
 

@@ -1,5 +1,4 @@
 use borrow.Author.Rules.{rules}
-use Prim.Native.Nat.{◌-◌}
 use Rattle.control.specs.Control.{pool_size}
 use Rattle.control.proofs.pool_size.Goals as goal
 

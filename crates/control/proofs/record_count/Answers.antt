@@ -1,6 +1,4 @@
-use borrow.Author.Rules.{rules}
 use mathlib.Core.Path.{refl}
-use Prim.Native.Nat.{◌-◌}
 use Rattle.control.specs.Control.{record_count}
 use Rattle.control.proofs.record_count.Goals as goal
 

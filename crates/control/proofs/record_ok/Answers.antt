@@ -1,6 +1,4 @@
-use Prim.Native.Nat.{◌-◌}
 use native.Mathlib.Omega.{arith}
-use borrow.Author.Tests.{not-true, not-false}
 use Rattle.control.proofs.ControlLaws.{used-no, used-last, unused-no, unused-last}
 use Rattle.control.proofs.record_ok.Goals as goal
 

@@ -1,5 +1,4 @@
 use borrow.Author.Rules.{rules}
-use Prim.Native.Nat.{◌-◌}
 use Rattle.control.specs.Control.{removals}
 use Rattle.control.proofs.removal_count.Goals as goal
 

@@ -1,5 +1,4 @@
 use borrow.Author.Rules.{rules}
-use Prim.Native.Nat.{◌-◌}
 use Rattle.control.specs.Control.{word_of_place}
 use Rattle.control.proofs.word_of_place.Goals as goal
 
