@@ -26,46 +26,46 @@ pub const ORDERS: u32 = 11;
 pub const MARK_WORDS: usize = 129;
 
 // A frame number. A virtual page number never stands in its place.
-#[derive(Drop)]
+#[derive(Clone, Copy)]
 pub struct Frame(pub u32);
 
 // A block of 2 to the power `order` frames from `start` on.
-#[derive(Drop)]
+#[derive(Clone, Copy)]
 pub struct Block {
     pub start: Frame,
     pub order: u32,
 }
 
 // What earlier searches have shown: no free block has an order above `limit`, and none of that order starts below `from`.
-#[derive(Drop)]
+#[derive(Clone, Copy)]
 pub struct Bound {
     pub limit: u32,
     pub from: Frame,
 }
 
 // A block, and the order of the free block in which it lies.
-#[derive(Drop)]
+#[derive(Clone, Copy)]
 pub struct Cut {
     pub block: Block,
     pub top: u32,
 }
 
 // The block chosen, and what is known for the next search.
-#[derive(Drop)]
+#[derive(Clone, Copy)]
 pub struct Chosen {
     pub block: Block,
     pub known: Bound,
 }
 
 // What the check of a buffer finds: whether its words are lawful, and where they are, how many frames are held.
-#[derive(Drop)]
+#[derive(Clone, Copy)]
 pub struct Judged {
     pub lawful: bool,
     pub held: u32,
 }
 
 // The calls on the pool, with their arguments; allocate takes as many frames as the list that it is lent has places, the first block at the wished frame where the rule says so.
-#[derive(Drop)]
+#[derive(Clone, Copy)]
 pub enum PoolCall {
     SetUp(u32),
     Check(u32),
@@ -75,7 +75,7 @@ pub enum PoolCall {
 }
 
 // What a call on the pool answers: its first value, or why it is refused.
-#[derive(Drop)]
+#[derive(Clone, Copy)]
 pub enum Reply {
     Done(u32),
     WrongLength,

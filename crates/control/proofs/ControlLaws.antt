@@ -424,7 +424,7 @@ module _ (c : List ℕ) (s : ℕ) (len : length c ≡ control_buffer_words) (shu
   pub opened-other : (t : ℕ) → (t ≡ s → ⊥) → is_open (open_mask (with_opened c s)) t ≡ is_open (open_mask c) t
   opened-other t ne = rw opened-mask (set_other (open_mask c) s shut t ne)
 
-module _ (c : List ℕ) (s : ℕ) (len : length c ≡ control_buffer_words) (is_open : is_open (open_mask c) s ≡ true) where
+module _ (c : List ℕ) (s : ℕ) (len : length c ≡ control_buffer_words) (stands_open : is_open (open_mask c) s ≡ true) where
   pub closed-mask : open_mask (with_closed c s) ≡ open_mask c - 2 ^ s
   unfolding with_closed
   closed-mask = mask-written c (open_mask c - 2 ^ s) len
@@ -434,7 +434,7 @@ module _ (c : List ℕ) (s : ℕ) (len : length c ≡ control_buffer_words) (is_
   closed-lawful t = let m = (lawful-says c t).mask in mask-lawful c (open_mask c - 2 ^ s) len t (omega arith)
 
   pub closed-other : (t : ℕ) → (t ≡ s → ⊥) → is_open (open_mask (with_closed c s)) t ≡ is_open (open_mask c) t
-  closed-other t ne = rw closed-mask (cleared-other (open_mask c) s is_open t ne)
+  closed-other t ne = rw closed-mask (cleared-other (open_mask c) s stands_open t ne)
 
 -- the stores of the code
 

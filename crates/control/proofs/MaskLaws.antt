@@ -60,11 +60,11 @@ module _ (m s : ℕ) (shut : is_open m s ≡ false) where
       let r : m + 2 ^ s < 1 * 2 ^ w = (div-lt_iff_lt-mul (pow_pos w)).0 z in
       rw one-mul at r
 
-module _ (m s : ℕ) (is_open : is_open m s ≡ true) where
+module _ (m s : ℕ) (stands_open : is_open m s ≡ true) where
   pub bit_below : 2 ^ s ≤ m
   unfolding is_open has_bit
   bit_below =
-      let e : m / 2 ^ s % 2 ≡ 1 = eqb-true _ _ is_open in
+      let e : m / 2 ^ s % 2 ≡ 1 = eqb-true _ _ stands_open in
       by-dec (dec_lt m (2 ^ s)) (λ lt. let z : m / 2 ^ s ≡ 0 = div-eq_of_lt lt in absurd (omega arith)) (λ ge. omega arith)
 
   back : m - 2 ^ s + 2 ^ s ≡ m
@@ -74,7 +74,7 @@ module _ (m s : ℕ) (is_open : is_open m s ≡ true) where
   pub cleared-here : is_open (m - 2 ^ s) s ≡ false
   unfolding is_open has_bit
   cleared-here =
-      let e : m / 2 ^ s % 2 ≡ 1 = eqb-true _ _ is_open in
+      let e : m / 2 ^ s % 2 ≡ 1 = eqb-true _ _ stands_open in
       let q : m / 2 ^ s ≡ (m - 2 ^ s) / 2 ^ s + 1 = sym (ap (λ (x : ℕ). x / 2 ^ s) back) ∙ at-bit (m - 2 ^ s) s in
       ne_eqb ((m - 2 ^ s) / 2 ^ s % 2) 1 (λ x. omega arith)
 

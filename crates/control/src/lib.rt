@@ -1,4 +1,6 @@
 // The control buffer: its fields, whether it is lawful, and what the calls write into it.
+#![tactic(auto)]
+
 ghost use Rattle.std.specs.Prelude.{◌≡◌, true, false, ◌+◌, ◌^◌, ◌≤◌, ◌<◌, length};
 ghost use Rattle.words.specs.Wrapping.{largest_word};
 ghost use Rattle.runs.specs.PageWords.{last_space};
@@ -192,7 +194,7 @@ fn next_number(m: u32) -> u32
 // Appends a removal record.
 pub fn append(control: &mut [u32], space: u32, first: Page, count: u32)
     requires control_len { length control.old ≡ control_buffer_words }
-    requires fact { removals control.old ≡ largest_word → ⊥ }
+    requires number_left { removals control.old ≡ largest_word → ⊥ }
     ensures { control.new ≡ appended control.old space first.0 count }
 {
     let m = next_number(removal_count(control));

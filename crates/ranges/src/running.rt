@@ -9,7 +9,7 @@ use crate::walk::{Stretch, goes_on};
 use runs::Page;
 
 // What the walk carries: the running length at the page that it passed last, and that page's word.
-#[derive(Drop)]
+#[derive(Clone, Copy)]
 pub struct Carried {
     pub length: u32,
     pub word: u32,

@@ -68,7 +68,7 @@ fn onward_from(part: &[u32], b: Page, v: u32) -> u32
 }
 
 // A stretch of pages that a walk passes at once, how many of them are mapped, all or none, and the word before its end.
-#[derive(Drop)]
+#[derive(Clone, Copy)]
 pub struct Stretch {
     pub pages: u32,
     pub mapped: u32,

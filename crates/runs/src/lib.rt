@@ -23,5 +23,5 @@ pub const RANGES: u32 = 128;
 pub const ENTRY_WORDS: usize = 4;
 
 // A virtual page number of a space. A frame number never stands in its place.
-#[derive(Drop)]
+#[derive(Clone, Copy)]
 pub struct Page(pub u32);

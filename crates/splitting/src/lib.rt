@@ -1,4 +1,6 @@
 // Taking frames by the map rule: choosing a block, and cutting it out of its free block or marking it as chosen.
+#![tactic(auto)]
+
 mod choosing;
 mod marking;
 mod taking;

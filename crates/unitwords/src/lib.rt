@@ -1,4 +1,5 @@
 // A translation unit as words: read from a lent buffer, and written into one.
+#![tactic(auto)]
 ghost use Rattle.std.specs.Prelude.{◌≡◌, ◌<◌, length};
 ghost use Rattle.words.specs.Tables.{tabulate};
 ghost use Rattle.history.specs.Units.{range_entries, page_entries};
@@ -161,7 +162,7 @@ fn write_ranges(words: &mut [u32], u: Unit)
 pub fn write_unit(words: &mut [u32], u: Unit)
     requires { length words.old ≡ words_in_unit }
     ensures words_after { words.new ≡ words_of u }
-    ensures words_after_2 { unit_of words.new ≡ u }
+    ensures reads_back { unit_of words.new ≡ u }
 {
     write_pages(&mut words[0..RANGES_FROM], u);
     write_ranges(&mut words[RANGES_FROM..LAST_AT], u);

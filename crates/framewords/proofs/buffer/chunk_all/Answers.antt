@@ -1,5 +1,5 @@
 use mathlib.Core.Path.{◌≡◌, refl, ap, ◌∙◌}
-use Prim.Native.Nat.{ℕ, ◌-◌, ◌+◌, ◌≤◌}
+use Prim.Native.Nat.{ℕ}
 use native.Mathlib.Omega.{arith}
 use lib.Dec.{eqb}
 use Rattle.words.specs.Counts.{count}
@@ -7,7 +7,6 @@ use Rattle.words.proofs.CountLaws.{count-step}
 use Rattle.words.proofs.ScanLaws.{all-by-count}
 use Rattle.blocks.specs.FrameWords.{owners_of, free_of, free_in}
 use Rattle.blocks.specs.Inner.Passes.{sought}
-use borrow.Author.Rules.{rules}
 use Rattle.framewords.proofs.buffer.chunk_all.Goals as goal
 
 pub loop-j-init : goal.loop-j-init

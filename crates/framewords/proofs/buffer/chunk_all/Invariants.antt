@@ -1,13 +1,8 @@
-use mathlib.Core.Path.{◌≡◌, refl, ap, ◌∙◌}
-use Prim.Native.Nat.{ℕ, ◌-◌, ◌+◌, ◌≤◌}
-use native.Mathlib.Omega.{arith}
-use lib.Dec.{eqb}
+use mathlib.Core.Path.{◌≡◌}
+use Prim.Native.Nat.{◌-◌, ◌+◌, ◌≤◌}
 use Rattle.words.specs.Counts.{count}
-use Rattle.words.proofs.CountLaws.{count-step}
-use Rattle.words.proofs.ScanLaws.{all-by-count}
-use Rattle.blocks.specs.FrameWords.{owners_of, free_of, free_in}
+use Rattle.blocks.specs.FrameWords.{free_in}
 use Rattle.blocks.specs.Inner.Passes.{sought}
-use borrow.Author.Rules.{rules}
 use Rattle.framewords.proofs.buffer.chunk_all.Given as goal
 
 abbrev pub invariant-loop-j : goal.invariant-loop-j

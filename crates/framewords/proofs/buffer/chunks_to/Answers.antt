@@ -1,12 +1,6 @@
 use mathlib.Core.Path.{sym, ◌∙◌}
-use Prim.Native.Nat.{◌-◌}
 use native.Mathlib.Omega.{arith}
-use borrow.Author.Tests.{not-false}
-use Rattle.words.specs.Inner.{PassTo}
 use Rattle.words.proofs.ScanLaws.{pass-none, pass-chunk}
-use Rattle.blocks.specs.FrameWords.{free_in}
-use Rattle.blocks.specs.Inner.Passes.{sought}
-use borrow.Author.Rules.{rules}
 use Rattle.framewords.proofs.buffer.chunks_to.Goals as goal
 
 pub loop-g-init : goal.loop-g-init

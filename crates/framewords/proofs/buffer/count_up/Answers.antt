@@ -1,10 +1,7 @@
-use borrow.Author.Rules.{rules}
-use Rattle.words.specs.Inner.{CountedUp}
 use Rattle.words.proofs.WriteLaws.{change-none, change-more}
 use mathlib.Core.Path.{◌≡◌, refl}
-use Prim.Native.Nat.{◌≤◌, ◌-◌, ◌+◌}
 use native.Mathlib.Omega.{arith}
-use lib.ListN.{length, length-set}
+use lib.ListN.{length-set}
 use Rattle.framewords.proofs.buffer.count_up.Goals as goal
 
 pub loop-g-init : goal.loop-g-init

@@ -1,6 +1,5 @@
 use native.Mathlib.Omega.{arith}
 use Rattle.blocks.proofs.HeldLaws.{held-pass, held-near, held_more}
-use borrow.Author.Rules.{rules}
 use Rattle.framewords.proofs.buffer.held_to.Goals as goal
 
 pub returns-then-end-from-lt4 : goal.returns-then-end-from-lt4

@@ -1,6 +1,5 @@
 use native.Mathlib.Omega.{arith}
 use Rattle.blocks.proofs.FreeLaws.{one_free, one-held}
-use borrow.Author.Rules.{rules}
 use Rattle.framewords.proofs.buffer.one_if_free.Goals as goal
 
 pub returns-then-o-eq0 : goal.returns-then-o-eq0

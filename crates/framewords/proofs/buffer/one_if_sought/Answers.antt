@@ -1,6 +1,5 @@
 use native.Mathlib.Omega.{arith}
 use Rattle.blocks.proofs.HeldLaws.{sought-held, sought-free}
-use borrow.Author.Rules.{rules}
 use Rattle.framewords.proofs.buffer.one_if_sought.Goals as goal
 
 pub returns-then-held : goal.returns-then-held

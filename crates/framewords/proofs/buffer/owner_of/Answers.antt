@@ -1,5 +1,4 @@
 use mathlib.Core.Path.{sym}
-use Prim.Native.Nat.{◌-◌}
 use Rattle.blocks.proofs.WordLaws.{owner-low, owner-high}
 use Rattle.framewords.proofs.buffer.owner_of.Goals as goal
 

@@ -1,6 +1,4 @@
-use borrow.Author.Rules.{rules}
 use Rattle.words.proofs.PowerLaws.{shift_one}
-use Prim.Native.Nat.{◌-◌}
 use native.Mathlib.Omega.{arith}
 use Rattle.framewords.proofs.buffer.size_of.Goals as goal
 

@@ -1,5 +1,4 @@
 use native.Mathlib.Omega.{arith}
-use borrow.Author.Rules.{rules}
 use Rattle.blocks.proofs.AroundLaws.{start-shifted}
 use Rattle.framewords.proofs.buffer.start_of.Goals as goal
 

@@ -1,6 +1,4 @@
-use borrow.Author.Rules.{rules}
 use mathlib.Core.Path.{◌∙◌}
-use Prim.Native.Nat.{◌-◌}
 use Rattle.blocks.proofs.FreeLaws.{marks-all}
 use Rattle.framewords.proofs.owners.all_held.Goals as goal
 

@@ -1,8 +1,6 @@
-use borrow.Author.Rules.{rules}
 use mathlib.Core.Path.{◌≡◌, refl}
-use Prim.Native.Nat.{◌≤◌, ◌-◌}
 use native.Mathlib.Omega.{arith}
-use Rattle.blocks.proofs.FreeLaws.{NoneIn, none-zero, none_more, none-held, one-held-by, span-read}
+use Rattle.blocks.proofs.FreeLaws.{none-zero, none_more, none-held, one-held-by, span-read}
 use Rattle.framewords.proofs.owners.any_held.Goals as goal
 
 pub loop-g-init : goal.loop-g-init

@@ -1,8 +1,6 @@
-use borrow.Author.Rules.{rules}
-use mathlib.Core.Path.{◌≡◌, refl}
+use mathlib.Core.Path.{◌≡◌}
 use Prim.Native.Nat.{◌≤◌, ◌-◌}
-use native.Mathlib.Omega.{arith}
-use Rattle.blocks.proofs.FreeLaws.{NoneIn, none-zero, none_more, none-held, one-held-by, span-read}
+use Rattle.blocks.proofs.FreeLaws.{NoneIn}
 use Rattle.framewords.proofs.owners.any_held.Given as goal
 
 abbrev pub invariant-loop-g : goal.invariant-loop-g

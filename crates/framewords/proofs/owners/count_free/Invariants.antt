@@ -1,10 +1,7 @@
-use borrow.Author.Rules.{rules}
-use mathlib.Core.Path.{◌≡◌, refl}
+use mathlib.Core.Path.{◌≡◌}
 use Prim.Native.Nat.{◌≤◌, ◌-◌}
-use native.Mathlib.Omega.{arith}
 use Rattle.words.specs.Counts.{count}
-use Rattle.words.proofs.CountLaws.{count-le, count-step}
-use Rattle.blocks.specs.FrameWords.{owners_of, free_of, free_in}
+use Rattle.blocks.specs.FrameWords.{free_in}
 use Rattle.framewords.proofs.owners.count_free.Given as goal
 
 abbrev pub invariant-loop-f : goal.invariant-loop-f

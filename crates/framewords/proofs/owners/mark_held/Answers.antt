@@ -1,9 +1,6 @@
-use borrow.Author.Rules.{rules}
 use mathlib.Core.Path.{◌≡◌, refl, ◌∙◌}
-use Prim.Native.Nat.{◌≤◌, ◌-◌, zero-le}
+use Prim.Native.Nat.{zero-le}
 use native.Mathlib.Omega.{arith}
-use lib.ListN.{length}
-use Rattle.blocks.specs.Inner.Passes.{MarkedTo}
 use Rattle.blocks.proofs.FreeLaws.{marks-none, marks-turn}
 use Rattle.framewords.proofs.owners.mark_held.Goals as goal
 

@@ -1,10 +1,7 @@
-use borrow.Author.Rules.{rules}
-use mathlib.Core.Path.{◌≡◌, refl, ◌∙◌}
-use Prim.Native.Nat.{◌≤◌, ◌-◌, zero-le}
-use native.Mathlib.Omega.{arith}
+use mathlib.Core.Path.{◌≡◌}
+use Prim.Native.Nat.{◌≤◌, ◌-◌}
 use lib.ListN.{length}
 use Rattle.blocks.specs.Inner.Passes.{MarkedTo}
-use Rattle.blocks.proofs.FreeLaws.{marks-none, marks-turn}
 use Rattle.framewords.proofs.owners.mark_held.Given as goal
 
 abbrev pub invariant-loop-g : goal.invariant-loop-g

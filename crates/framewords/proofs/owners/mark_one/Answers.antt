@@ -1,8 +1,5 @@
-use borrow.Author.Rules.{rules}
 use mathlib.Core.Path.{sym, ◌∙◌}
-use Prim.Native.Nat.{◌-◌}
 use native.Mathlib.Omega.{arith}
-use borrow.Author.Tests.{not-true, not-false}
 use Rattle.blocks.proofs.FreeLaws.{span-in, mark-out, mark-in}
 use Rattle.framewords.proofs.owners.mark_one.Goals as goal
 

@@ -1,4 +1,3 @@
-use borrow.Author.Rules.{rules}
 use Rattle.words.proofs.PlaceLaws.{given, not-given}
 use Rattle.words.proofs.places.give.Goals as goal
 

@@ -1,6 +1,5 @@
 use Rattle.words.proofs.ScanLaws.{pass_on, pass_all}
 use native.Mathlib.Omega.{arith}
-use borrow.Author.Rules.{rules}
 use Rattle.words.proofs.scans.all_same.Goals as goal
 
 pub returns : goal.returns

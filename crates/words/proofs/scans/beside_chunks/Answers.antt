@@ -1,10 +1,6 @@
 use Rattle.words.proofs.ScanLaws.{pass-none, pass-chunk, beside-chunk}
-use Rattle.words.specs.Inner.{counts_beside, PassTo}
-use borrow.Author.Tests.{not-false}
 use native.Mathlib.Omega.{arith}
-use Prim.Native.Nat.{◌-◌}
 use mathlib.Core.Path.{sym, ◌∙◌}
-use borrow.Author.Rules.{rules}
 use Rattle.words.proofs.scans.beside_chunks.Goals as goal
 
 pub loop-k-init : goal.loop-k-init

@@ -1,8 +1,5 @@
-use Rattle.words.proofs.ScanLaws.{pass-none, pass-one, beside-one}
 use Rattle.words.specs.Inner.{counts_beside, PassTo}
-use native.Mathlib.Omega.{arith}
 use Prim.Native.Nat.{◌-◌}
-use borrow.Author.Rules.{rules}
 use Rattle.words.proofs.scans.beside_words.Given as goal
 
 abbrev pub invariant-loop-k : goal.invariant-loop-k

@@ -1,11 +1,8 @@
-use Rattle.words.proofs.ScanLaws.{differs-on, counts-test}
 use Rattle.words.specs.Inner.{counts_in}
 use Rattle.words.specs.Searches.{all_from}
 use lib.Dec.{eqb}
-use native.Mathlib.Omega.{arith}
-use Prim.Native.Nat.{ℕ, ◌-◌, ◌+◌, ◌≤◌}
-use mathlib.Core.Path.{◌≡◌, refl, ap, ◌∙◌}
-use borrow.Author.Rules.{rules}
+use Prim.Native.Nat.{◌-◌, ◌≤◌}
+use mathlib.Core.Path.{◌≡◌}
 use Rattle.words.proofs.scans.chunk_counts.Given as goal
 
 abbrev pub invariant-loop-j : goal.invariant-loop-j

@@ -1,10 +1,5 @@
-use Rattle.words.proofs.ScanLaws.{pass-none, pass-chunk}
 use Rattle.words.specs.Inner.{same_in, PassTo}
-use borrow.Author.Tests.{not-false}
-use native.Mathlib.Omega.{arith}
 use Prim.Native.Nat.{◌-◌}
-use mathlib.Core.Path.{sym, ◌∙◌}
-use borrow.Author.Rules.{rules}
 use Rattle.words.proofs.scans.same_chunks.Given as goal
 
 abbrev pub invariant-loop-g : goal.invariant-loop-g

@@ -1,9 +1,5 @@
-use Rattle.words.proofs.ScanLaws.{pass-none, pass-one}
-use Rattle.words.proofs.WriteLaws.{is_same, is-other}
 use Rattle.words.specs.Inner.{same_in, PassTo}
-use native.Mathlib.Omega.{arith}
 use Prim.Native.Nat.{◌-◌}
-use borrow.Author.Rules.{rules}
 use Rattle.words.proofs.scans.same_words.Given as goal
 
 abbrev pub invariant-loop-g : goal.invariant-loop-g

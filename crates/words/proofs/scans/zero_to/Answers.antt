@@ -1,5 +1,4 @@
 use Rattle.words.proofs.ScanLaws.{pass_on}
-use borrow.Author.Rules.{rules}
 use Rattle.words.proofs.scans.zero_to.Goals as goal
 
 pub returns : goal.returns

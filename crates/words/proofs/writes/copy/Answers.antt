@@ -1,10 +1,7 @@
-use borrow.Author.Rules.{rules}
-use Rattle.words.specs.Inner.{ChangedTo}
 use Rattle.words.proofs.WriteLaws.{change-none, change-more, all-copied}
-use mathlib.Core.Path.{◌≡◌, refl}
-use Prim.Native.Nat.{◌≤◌, ◌-◌}
+use mathlib.Core.Path.{refl}
 use native.Mathlib.Omega.{arith}
-use lib.ListN.{length, length-set, get_or}
+use lib.ListN.{length-set}
 use Rattle.words.proofs.writes.copy.Goals as goal
 
 pub loop-g-init : goal.loop-g-init

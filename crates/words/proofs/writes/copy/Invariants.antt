@@ -1,10 +1,7 @@
-use borrow.Author.Rules.{rules}
 use Rattle.words.specs.Inner.{ChangedTo}
-use Rattle.words.proofs.WriteLaws.{change-none, change-more, all-copied}
-use mathlib.Core.Path.{◌≡◌, refl}
+use mathlib.Core.Path.{◌≡◌}
 use Prim.Native.Nat.{◌≤◌, ◌-◌}
-use native.Mathlib.Omega.{arith}
-use lib.ListN.{length, length-set, get_or}
+use lib.ListN.{length, get_or}
 use Rattle.words.proofs.writes.copy.Given as goal
 
 abbrev pub invariant-loop-g : goal.invariant-loop-g

@@ -1,10 +1,7 @@
-use borrow.Author.Rules.{rules}
 use Rattle.words.specs.Inner.{Filled}
-use Rattle.words.proofs.WriteLaws.{change-none, change-more}
-use mathlib.Core.Path.{◌≡◌, refl}
+use mathlib.Core.Path.{◌≡◌}
 use Prim.Native.Nat.{◌≤◌, ◌-◌}
-use native.Mathlib.Omega.{arith}
-use lib.ListN.{length, length-set}
+use lib.ListN.{length}
 use Rattle.words.proofs.writes.fill.Given as goal
 
 abbrev pub invariant-loop-g : goal.invariant-loop-g

@@ -1,0 +1,6 @@
+use Rattle.unitwords.proofs.EntryLaws.{read_all}
+use borrow.Author.Rules.{rules}
+use Rattle.unitwords.proofs.read_unit.Goals as goal
+
+pub returns : goal.returns
+returns c = read_all c.args.words.now c.emptied-empty.result _ _ c.with_pages-paged.ensures c.with_ranges-u.ensures

@@ -1,0 +1,19 @@
+use Rattle.unitwords.proofs.EntryLaws.{tabled_to, none-tabled, all-tabled, next-range}
+use Rattle.unitwords.specs.UnitWords.{range_entry_at}
+use Rattle.invalidation.specs.Entries.{with_ranges}
+use Rattle.history.specs.Units.{no_range}
+use lib.ListN.{length, length-map}
+use native.Mathlib.Omega.{arith}
+use Prim.Native.Nat.{◌≤◌, ◌-◌}
+use mathlib.Core.Path.{◌≡◌, ap, ◌∙◌}
+use borrow.Author.Rules.{rules}
+use Rattle.unitwords.proofs.with_ranges.Goals as goal
+
+pub loop-k-init : goal.loop-k-init
+loop-k-init c = (omega arith, (c.well_formed.0.1.1.1.0.1.0.1, ap (with_ranges c.args.u) (none-tabled _ _)))
+
+pub loop-k-preserved : goal.loop-k-preserved
+loop-k-preserved c = (omega arith, (c.loop-k.invariant.1.0, next-range _ _ _ _ _ no_range c.loop-k.invariant.1.1 (omega arith) c.range_at-e.ensures))
+
+pub returns : goal.returns
+returns c = c.loop-k.invariant.1.1 ∙ ap (with_ranges c.args.u) (all-tabled _ _ 32 _ (omega arith) c.loop-k.invariant.1.0)
