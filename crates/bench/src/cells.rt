@@ -1,83 +1,87 @@
 // The three tables that are written: a line for each pool and a cell for each call, then a line for each state of the page tables, then a line for each span that is mapped and previewed.
 use crate::pool_calls::Request;
 use crate::pools::Filling;
-use libc::STDOUT_FILENO;
 use words::Outcome;
 
-fn text(s: &[u8]) {
-    io::write_all(STDOUT_FILENO, s);
+// Writes the text. Where a write fails, the rest of it is lost.
+fn text<R: Print>(rt: &R, s: &str) {
+    let _ = rt.print(s);
 }
 
-fn decimal(n: u64) {
-    io::print_decimal(STDOUT_FILENO, n);
+fn decimal<R: Print>(rt: &R, n: u64) {
+    let _ = rt.print(n);
 }
 
 // Between two cells of a line.
-fn bar() {
-    text(b" | ");
+fn bar<R: Print>(rt: &R) {
+    text(rt, " | ");
 }
 
-pub fn pool_heading() {
+pub fn pool_heading<R: Print>(rt: &R) {
     text(
-        b"F | pool | n | set up | check | count | allocate 1 | allocate n | free n\n-|-|-|-|-|-|-|-|-\n",
+        rt,
+        "F | pool | n | set up | check | count | allocate 1 | allocate n | free n\n-|-|-|-|-|-|-|-|-\n",
     );
 }
 
-fn name(filling: Filling) {
+fn name<R: Print>(rt: &R, filling: Filling) {
     match filling {
-        Filling::AllFree => text(b"all free"),
-        Filling::EverySecondHeld => text(b"every second held"),
-        Filling::Full => text(b"full"),
+        Filling::AllFree => text(rt, "all free"),
+        Filling::EverySecondHeld => text(rt, "every second held"),
+        Filling::Full => text(rt, "full"),
     }
 }
 
 // The first three cells of a line of the pool: the pool's size, how it is filled, and how many frames are asked for.
-pub fn begin_pool(filling: Filling, r: Request) {
-    decimal(r.pool as u64);
-    bar();
-    name(filling);
-    bar();
-    decimal(r.n as u64);
+pub fn begin_pool<R: Print>(rt: &R, filling: Filling, r: Request) {
+    decimal(rt, r.pool as u64);
+    bar(rt);
+    name(rt, filling);
+    bar(rt);
+    decimal(rt, r.n as u64);
 }
 
-pub fn table_heading() {
-    text(b"\ntables | check\n-|-\n");
+pub fn table_heading<R: Print>(rt: &R) {
+    text(rt, "\ntables | check\n-|-\n");
 }
 
 // The first cell of a line of the table check: which tables.
-pub fn begin_tables(mapped: u32) {
+pub fn begin_tables<R: Print>(rt: &R, mapped: u32) {
     if mapped == 0 {
-        text(b"empty");
+        text(rt, "empty");
     } else {
-        text(b"full");
+        text(rt, "full");
     }
 }
 
-pub fn preview_heading() {
-    text(b"\nF | broken up | n | copy | copy and map | preview\n-|-|-|-|-|-\n");
+pub fn preview_heading<R: Print>(rt: &R) {
+    text(
+        rt,
+        "\nF | broken up | n | copy | copy and map | preview\n-|-|-|-|-|-\n",
+    );
 }
 
 // The first three cells of a line of a map and its preview: the pool's size, how many of its frames were broken up, and how many pages are asked for.
-pub fn begin_span(pool: u32, held: u32, n: u32) {
-    decimal(pool as u64);
-    bar();
-    decimal(held as u64);
-    bar();
-    decimal(n as u64);
+pub fn begin_span<R: Print>(rt: &R, pool: u32, held: u32, n: u32) {
+    decimal(rt, pool as u64);
+    bar(rt);
+    decimal(rt, held as u64);
+    bar(rt);
+    decimal(rt, n as u64);
 }
 
-pub fn end() {
-    text(b"\n");
+pub fn end<R: Print>(rt: &R) {
+    text(rt, "\n");
 }
 
 // The next cell: what a call answers, its first value or the number of its refusal.
-pub fn answer(o: Outcome) {
-    bar();
+pub fn answer<R: Print>(rt: &R, o: Outcome) {
+    bar(rt);
     if o.number == 0 {
-        decimal(o.first as u64);
+        decimal(rt, o.first as u64);
     } else {
-        text(b"refused ");
-        decimal(o.number as u64);
+        text(rt, "refused ");
+        decimal(rt, o.number as u64);
     }
 }
 
@@ -92,19 +96,19 @@ pub fn alike(a: Outcome, b: Outcome) -> bool {
     a.second == b.second
 }
 
-fn two_digits(n: u64) {
+fn two_digits<R: Print>(rt: &R, n: u64) {
     if n < 10 {
-        decimal(0);
+        decimal(rt, 0);
     }
-    decimal(n);
+    decimal(rt, n);
 }
 
 // The next cell: a number of hundredths, with two digits after the point.
-pub fn hundredths(n: u64) {
-    bar();
-    decimal(n / 100);
-    text(b".");
-    two_digits(n % 100);
+pub fn hundredths<R: Print>(rt: &R, n: u64) {
+    bar(rt);
+    decimal(rt, n / 100);
+    text(rt, ".");
+    two_digits(rt, n % 100);
 }
 
 // The number with one decimal digit more; as it is where that is no digit, or the number has seven.

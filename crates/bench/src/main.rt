@@ -11,46 +11,50 @@ mod table_check;
 
 use crate::pool_calls::Call;
 use crate::pools::Filling;
+use std::env::Env;
+use std::time::CpuClock;
 
-// The number that the first argument gives, or 0 where there is none.
-fn rounds_asked() -> u32 {
+// The number that the first argument gives, or 0 where there is none, or one of more than eight bytes.
+fn rounds_asked<R: Env>(rt: &R) -> u32 {
     let mut text = [0u8; 8];
-    let n = os::arg(1, &mut text);
-    cells::number(&text[..n])
+    match rt.arg(1, &mut text) {
+        Ok(n) => cells::number(&text[..n]),
+        Err(_) => 0,
+    }
 }
 
 // A line of the pool's table: each call on one pool.
-fn row(rounds: u32, filling: Filling, pool: u32) {
+fn row<R: Print + CpuClock>(rt: &R, rounds: u32, filling: Filling, pool: u32) {
     let words = pools::filled(filling, pool);
     let asked = pools::asked(filling, pool);
-    cells::begin_pool(filling, asked);
-    pool_calls::cell(rounds, Call::SetUp, words, asked);
-    pool_calls::cell(rounds, Call::Check, words, asked);
-    pool_calls::cell(rounds, Call::Count, words, asked);
-    pool_calls::cell(rounds, Call::Allocate, words, pools::single(asked));
-    pool_calls::cell(rounds, Call::Allocate, words, asked);
+    cells::begin_pool(rt, filling, asked);
+    pool_calls::cell(rt, rounds, Call::SetUp, words, asked);
+    pool_calls::cell(rt, rounds, Call::Check, words, asked);
+    pool_calls::cell(rt, rounds, Call::Count, words, asked);
+    pool_calls::cell(rt, rounds, Call::Allocate, words, pools::single(asked));
+    pool_calls::cell(rt, rounds, Call::Allocate, words, asked);
     let after = pool_calls::after(words, asked);
     let held = pools::held(filling, asked);
-    pool_calls::cell(rounds, Call::Free, after, held);
-    cells::end();
+    pool_calls::cell(rt, rounds, Call::Free, after, held);
+    cells::end(rt);
 }
 
 // The lines of the pools of `pool` frames.
-fn rows(rounds: u32, pool: u32) {
-    row(rounds, Filling::AllFree, pool);
-    row(rounds, Filling::EverySecondHeld, pool);
-    row(rounds, Filling::Full, pool);
+fn rows<R: Print + CpuClock>(rt: &R, rounds: u32, pool: u32) {
+    row(rt, rounds, Filling::AllFree, pool);
+    row(rt, rounds, Filling::EverySecondHeld, pool);
+    row(rt, rounds, Filling::Full, pool);
 }
 
 // A pool of 0 frames is refused at once: its line shows what the making of a call costs by itself.
-fn main() {
-    let rounds = rounds_asked();
-    cells::pool_heading();
-    row(rounds, Filling::AllFree, 0);
-    rows(rounds, 512);
-    rows(rounds, 1024);
-    rows(rounds, 2048);
-    rows(rounds, 4096);
-    table_check::rows(rounds);
-    previews::rows(rounds);
+fn main(rt: HostRuntime) {
+    let rounds = rounds_asked(&rt);
+    cells::pool_heading(&rt);
+    row(&rt, rounds, Filling::AllFree, 0);
+    rows(&rt, rounds, 512);
+    rows(&rt, rounds, 1024);
+    rows(&rt, rounds, 2048);
+    rows(&rt, rounds, 4096);
+    table_check::rows(&rt, rounds);
+    previews::rows(&rt, rounds);
 }

@@ -3,12 +3,13 @@ ghost use Rattle.std.specs.Prelude.{◌≤◌, length};
 
 use crate::{cells, clock};
 use blocks::{BUFFER_WORDS, LARGEST_POOL, LAST_FRAME, Reply};
+use std::time::CpuClock;
 use words::Outcome;
 
 // No frame of any pool.
 pub const NO_WISH: u32 = LARGEST_POOL;
 
-#[derive(Drop)]
+#[derive(Clone, Copy)]
 pub enum Call {
     SetUp,
     Check,
@@ -18,7 +19,7 @@ pub enum Call {
 }
 
 // A pool of `pool` frames, and the n owners from `owner` on.
-#[derive(Drop)]
+#[derive(Clone, Copy)]
 pub struct Request {
     pub pool: u32,
     pub owner: u32,
@@ -45,7 +46,7 @@ fn make(call: Call, frames: &mut [u32], r: Request, out: &mut [u32]) -> Reply {
 }
 
 // What is seen of a call: its answer, a word of the pool and a place of `out` that it may have written.
-#[derive(Drop)]
+#[derive(Clone, Copy)]
 struct Seen {
     outcome: Outcome,
     word: u32,
@@ -86,24 +87,30 @@ pub fn after(words: [u32; BUFFER_WORDS], r: Request) -> [u32; BUFFER_WORDS] {
 }
 
 // The time of a hundred calls, each on a copy of these words. Each is compared with a first one, since the compiler may leave out work whose end nothing reads.
-fn hundred(call: Call, words: [u32; BUFFER_WORDS], r: Request) -> u64 {
+fn hundred<R: CpuClock>(rt: &R, call: Call, words: [u32; BUFFER_WORDS], r: Request) -> u64 {
     let mut out = [0u32; BUFFER_WORDS];
     let first = look(call, words, r, &mut out);
     let mut same = true;
-    let start = clock::used();
+    let start = clock::used(rt);
     for _ in 0..100u32 {
         if !alike(first, look(call, words, r, &mut out)) {
             same = false;
         }
     }
-    clock::since_if(same, start)
+    clock::since_if(rt, same, start)
 }
 
 // The time of the fastest hundred calls out of `rounds` hundreds.
-fn fastest(rounds: u32, call: Call, words: [u32; BUFFER_WORDS], r: Request) -> u64 {
-    let mut best = hundred(call, words, r);
+fn fastest<R: CpuClock>(
+    rt: &R,
+    rounds: u32,
+    call: Call,
+    words: [u32; BUFFER_WORDS],
+    r: Request,
+) -> u64 {
+    let mut best = hundred(rt, call, words, r);
     for _ in 1..rounds {
-        let t = hundred(call, words, r);
+        let t = hundred(rt, call, words, r);
         if t < best {
             best = t;
         }
@@ -112,12 +119,18 @@ fn fastest(rounds: u32, call: Call, words: [u32; BUFFER_WORDS], r: Request) -> u
 }
 
 // A cell: what the call answers, or where rounds are asked for its time.
-pub fn cell(rounds: u32, call: Call, words: [u32; BUFFER_WORDS], r: Request) {
+pub fn cell<R: Print + CpuClock>(
+    rt: &R,
+    rounds: u32,
+    call: Call,
+    words: [u32; BUFFER_WORDS],
+    r: Request,
+) {
     if rounds == 0 {
         let mut out = [0u32; BUFFER_WORDS];
         let seen = look(call, words, r, &mut out);
-        cells::answer(seen.outcome);
+        cells::answer(rt, seen.outcome);
     } else {
-        cells::hundredths(fastest(rounds, call, words, r));
+        cells::hundredths(rt, fastest(rt, rounds, call, words, r));
     }
 }

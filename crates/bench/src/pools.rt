@@ -4,7 +4,7 @@ ghost use Rattle.std.specs.Prelude.{◌≤◌};
 use crate::pool_calls::{NO_WISH, Request, allocate};
 use blocks::BUFFER_WORDS;
 
-#[derive(Drop)]
+#[derive(Clone, Copy)]
 pub enum Filling {
     AllFree,
     EverySecondHeld,

@@ -2,6 +2,7 @@
 use crate::{cells, clock};
 use layout::{CONTROL_WORDS, FRAME_BUFFER_WORDS, PAGE_BUFFER_WORDS, RANGE_BUFFER_WORDS};
 use runs::PAGES;
+use std::time::CpuClock;
 
 // Opens the spaces below `mapped` and maps every page of each.
 fn map_spaces(
@@ -31,24 +32,37 @@ fn fill(
 }
 
 // The time of a hundred calls.
-fn hundred(control: &mut [u32], frames: &[u32], pages: &[u32], ranges: &[u32]) -> u64 {
+fn hundred<R: CpuClock>(
+    rt: &R,
+    control: &mut [u32],
+    frames: &[u32],
+    pages: &[u32],
+    ranges: &[u32],
+) -> u64 {
     let first = tables::outcome(tables::open(control, frames, pages, ranges, 0));
     let mut same = true;
-    let start = clock::used();
+    let start = clock::used(rt);
     for _ in 0..100u32 {
         let now = tables::outcome(tables::open(control, frames, pages, ranges, 0));
         if !cells::alike(first, now) {
             same = false;
         }
     }
-    clock::since_if(same, start)
+    clock::since_if(rt, same, start)
 }
 
 // The time of the fastest hundred calls out of `rounds` hundreds.
-fn fastest(rounds: u32, control: &mut [u32], frames: &[u32], pages: &[u32], ranges: &[u32]) -> u64 {
-    let mut best = hundred(control, frames, pages, ranges);
+fn fastest<R: CpuClock>(
+    rt: &R,
+    rounds: u32,
+    control: &mut [u32],
+    frames: &[u32],
+    pages: &[u32],
+    ranges: &[u32],
+) -> u64 {
+    let mut best = hundred(rt, control, frames, pages, ranges);
     for _ in 1..rounds {
-        let t = hundred(control, frames, pages, ranges);
+        let t = hundred(rt, control, frames, pages, ranges);
         if t < best {
             best = t;
         }
@@ -57,29 +71,39 @@ fn fastest(rounds: u32, control: &mut [u32], frames: &[u32], pages: &[u32], rang
 }
 
 // What the call answers, or where rounds are asked for its time.
-fn cell(rounds: u32, control: &mut [u32], frames: &[u32], pages: &[u32], ranges: &[u32]) {
+fn cell<R: Print + CpuClock>(
+    rt: &R,
+    rounds: u32,
+    control: &mut [u32],
+    frames: &[u32],
+    pages: &[u32],
+    ranges: &[u32],
+) {
     if rounds == 0 {
-        cells::answer(tables::outcome(tables::open(control, frames, pages, ranges, 0)));
+        cells::answer(
+            rt,
+            tables::outcome(tables::open(control, frames, pages, ranges, 0)),
+        );
     } else {
-        cells::hundredths(fastest(rounds, control, frames, pages, ranges));
+        cells::hundredths(rt, fastest(rt, rounds, control, frames, pages, ranges));
     }
 }
 
 // A line: the tables with every page of the spaces below `mapped` mapped.
-fn row(rounds: u32, mapped: u32) {
+fn row<R: Print + CpuClock>(rt: &R, rounds: u32, mapped: u32) {
     let mut control = [0u32; CONTROL_WORDS];
     let mut frames = [0u32; FRAME_BUFFER_WORDS];
     let mut pages = [0u32; PAGE_BUFFER_WORDS];
     let mut ranges = [0u32; RANGE_BUFFER_WORDS];
     fill(&mut control, &mut frames, &mut pages, &mut ranges, mapped);
-    cells::begin_tables(mapped);
-    cell(rounds, &mut control, &frames, &pages, &ranges);
-    cells::end();
+    cells::begin_tables(rt, mapped);
+    cell(rt, rounds, &mut control, &frames, &pages, &ranges);
+    cells::end(rt);
 }
 
 // The lines of the table check: nothing mapped, and every page of the four spaces.
-pub fn rows(rounds: u32) {
-    cells::table_heading();
-    row(rounds, 0);
-    row(rounds, 4);
+pub fn rows<R: Print + CpuClock>(rt: &R, rounds: u32) {
+    cells::table_heading(rt);
+    row(rt, rounds, 0);
+    row(rt, rounds, 4);
 }

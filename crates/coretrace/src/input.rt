@@ -3,8 +3,8 @@ ghost use Rattle.std.specs.Prelude.{◌≡◌, ◌+◌, ◌-◌, ◌≤◌, ◌<
 ghost use Rattle.std.proofs.Math.Seq.{paste};
 ghost use Rattle.records.specs.Input.{waiting, standing};
 
-use libc::STDIN_FILENO;
 use records::Window;
+use std::io::Read;
 
 // Moves the bytes from `from` up to `to` to the front.
 fn shift(buffer: &mut [u8], from: usize, to: usize)
@@ -17,18 +17,20 @@ fn shift(buffer: &mut [u8], from: usize, to: usize)
     }
 }
 
-// One read into the room behind the first `to` bytes; answers how many it gave.
-fn read_to(buffer: &mut [u8], to: usize) -> usize
+// One read into the room behind the first `to` bytes; answers how many it gave, none where it fails.
+fn read_to<R: Read>(stdin: &mut R, buffer: &mut [u8], to: usize) -> usize
     requires { to < length buffer.old }
     ensures result_in_bounds { to + result ≤ length buffer.old }
     ensures buffer_unchanged { take to buffer.new ≡ take to buffer.old }
 {
-    let got = libc::read(STDIN_FILENO, &mut buffer[to..]);
-    io::count(got, &buffer[to..])
+    match stdin.read(&mut buffer[to..]) {
+        Ok(got) => got,
+        Err(_) => 0,
+    }
 }
 
 // Reads behind the first n bytes until a whole record stands at the front or a read gives nothing; answers how many bytes there are.
-fn read_on(buffer: &mut [u8], n: usize) -> usize
+fn read_on<R: Read>(stdin: &mut R, buffer: &mut [u8], n: usize) -> usize
     requires in_bounds { 65537 ≤ length buffer.old }
     requires n_in_bounds { n ≤ length buffer.old }
     ensures lower_bound { n ≤ result }
@@ -37,7 +39,7 @@ fn read_on(buffer: &mut [u8], n: usize) -> usize
 {
     let mut to = n;
     while records::standing(&buffer[..to]) == 0 {
-        let got = read_to(buffer, to);
+        let got = read_to(stdin, buffer, to);
         if got == 0 {
             break;
         }
@@ -47,7 +49,7 @@ fn read_on(buffer: &mut [u8], n: usize) -> usize
 }
 
 // Where no whole record waits, moves what waits to the front and reads on.
-pub fn fill(buffer: &mut [u8], w: Window) -> Window
+pub fn fill<R: Read>(stdin: &mut R, buffer: &mut [u8], w: Window) -> Window
     requires in_bounds { 65537 ≤ length buffer.old }
     requires from_le_to { w.from ≤ w.to }
     requires to_in_bounds { w.to ≤ length buffer.old }
@@ -60,6 +62,6 @@ pub fn fill(buffer: &mut [u8], w: Window) -> Window
         return w;
     }
     shift(buffer, w.from, w.to);
-    let to = read_on(buffer, w.to - w.from);
+    let to = read_on(stdin, buffer, w.to - w.from);
     Window { from: 0, to }
 }

@@ -11,6 +11,7 @@ ghost use Rattle.trace.specs.Inner.{Lies, Ready};
 ghost use Rattle.coretrace.specs.Runs.{keeps, Ran, RanWhole};
 
 use records::{LONGEST_LINE, Window};
+use std::io::{Read, Write};
 use trace::State;
 
 // The last number of 64 bits, which no run comes to.
@@ -29,7 +30,13 @@ fn keeps(s: State, buffer: &[u8], lines: &[u8]) -> bool
 }
 
 // Gets the bytes of the next record, behind those that wait. Where none is ready, `fill` reads and may wait: the lines go out before.
-fn ahead(s: State, buffer: &mut [u8], lines: &[u8]) -> State
+fn ahead<R: Read, W: Write>(
+    s: State,
+    stdin: &mut R,
+    stdout: &mut W,
+    buffer: &mut [u8],
+    lines: &[u8],
+) -> State
     requires lies { Lies s buffer.old lines.now }
     requires in_bounds { 65537 ≤ length buffer.old }
     requires longest_line_in_bounds { longest_line ≤ length lines.now }
@@ -39,9 +46,9 @@ fn ahead(s: State, buffer: &mut [u8], lines: &[u8]) -> State
     ensures held_value { result.held ≡ cond (keeps s buffer.old lines.now) s.held 0 }
     ensures buffer_after { take (s.window.to - s.window.from) (waiting result.window buffer.new) ≡ waiting s.window buffer.old }
 {
-    let held = output::settle(keeps(s, buffer, lines), lines, s.held);
+    let held = output::settle(stdout, keeps(s, buffer, lines), lines, s.held);
     let w = s.window;
-    let window = input::fill(buffer, w);
+    let window = input::fill(stdin, buffer, w);
     State {
         number: s.number,
         window,
@@ -51,7 +58,9 @@ fn ahead(s: State, buffer: &mut [u8], lines: &[u8]) -> State
 }
 
 // Answers the records; returns how many first bytes of `lines` are still to be written.
-fn run(
+fn run<R: Read, W: Write>(
+    stdin: &mut R,
+    stdout: &mut W,
     control: &mut [u32],
     frames: &mut [u32],
     pages: &mut [u32],
@@ -72,7 +81,7 @@ fn run(
         goes: true,
     };
     while s.number < LAST {
-        s = ahead(s, buffer, lines);
+        s = ahead(s, stdin, stdout, buffer, lines);
         let w = s.window;
         let next = records::fetch(buffer, w);
         if trace::wants_unit(next) {
@@ -96,18 +105,25 @@ fn run(
 }
 
 // Writes the listing of the input; returns how many first bytes of `lines` are still to be written.
-fn list(buffer: &mut [u8], lines: &mut [u8]) -> usize
+fn list<R: Read, W: Write>(
+    stdin: &mut R,
+    stdout: &mut W,
+    buffer: &mut [u8],
+    lines: &mut [u8],
+) -> usize
     requires in_bounds { 65537 ≤ length buffer.old }
     requires longest_line_in_bounds { longest_line ≤ length lines.old }
     ensures upper_bound { result ≤ length lines.old }
     ensures ran_whole { RanWhole lines.new result }
 {
-    output::header();
+    output::header(stdout);
     let mut control = [0u32; layout::CONTROL_WORDS];
     let mut frames = [0u32; layout::FRAME_BUFFER_WORDS];
     let mut pages = [0u32; layout::PAGE_BUFFER_WORDS];
     let mut ranges = [0u32; layout::RANGE_BUFFER_WORDS];
     run(
+        stdin,
+        stdout,
         &mut control,
         &mut frames,
         &mut pages,
@@ -117,9 +133,11 @@ fn list(buffer: &mut [u8], lines: &mut [u8]) -> usize
     )
 }
 
-fn main() {
+fn main(rt: HostRuntime) {
+    let mut stdin = rt.stdin();
+    let mut stdout = rt.stdout();
     let mut buffer = [0u8; 131072];
     let mut lines = [0u8; 65536];
-    let held = list(&mut buffer, &mut lines);
-    output::send(&lines, held);
+    let held = list(&mut stdin, &mut stdout, &mut buffer, &mut lines);
+    output::send(&mut stdout, &lines, held);
 }

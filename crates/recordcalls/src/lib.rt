@@ -5,7 +5,7 @@ pub use crate::steps::{fresh_units, malformed, needs_unit, take, take_beside};
 use history::Unit;
 use words::Outcome;
 
-#[derive(Drop)]
+#[derive(Clone, Copy)]
 pub struct TwoUnits {
     pub first: Unit,
     pub second: Unit,

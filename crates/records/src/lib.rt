@@ -11,21 +11,21 @@ use history::Call;
 pub const LONGEST_LINE: usize = 105;
 
 // What a record asks for: nothing where it is malformed, with the kind to be shown; else a call, on unit 0 or 1 (0 where the call takes none).
-#[derive(Drop)]
+#[derive(Clone, Copy)]
 pub enum Meaning {
     Malformed(u32),
     Asks { kind: u32, unit: u32, call: Call },
 }
 
 // The bytes that are read and not yet taken: those of the buffer from `from` up to `to`.
-#[derive(Drop)]
+#[derive(Clone, Copy)]
 pub struct Window {
     pub from: usize,
     pub to: usize,
 }
 
 // What comes next: nothing, a record that the end cuts short, or a whole one.
-#[derive(Drop)]
+#[derive(Clone, Copy)]
 pub enum Next {
     End,
     Cut,
