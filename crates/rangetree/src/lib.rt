@@ -1,4 +1,6 @@
 // The range tree: a B-tree of ranges over a lent buffer of 1,537 words, for the logic that walks it. Three calls, also exported for C and Rust; none asks anything of its caller.
+#![tactic(auto)]
+
 mod judging;
 
 ghost use Rattle.std.specs.Prelude.{◌≡◌};

@@ -1,4 +1,6 @@
 // Page words to and from Sv39 leaf entries, for a debugger, which links this crate without the rest. No function here is lent a table, and none that is public asks anything of its caller.
+#![tactic(auto)]
+
 mod entries;
 
 ghost use Rattle.std.specs.Prelude.{◌≡◌};

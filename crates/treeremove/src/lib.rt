@@ -1,4 +1,6 @@
 // Removal from a range tree in a lent buffer.
+#![tactic(auto)]
+
 mod mending;
 pub mod root;
 mod taking;

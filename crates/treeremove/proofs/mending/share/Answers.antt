@@ -1,0 +1,11 @@
+use Rattle.trees.proofs.LineLaws.{shared}
+use native.Mathlib.Omega.{arith}
+use Rattle.treeremove.proofs.mending.share.Goals as goal
+
+pub returns : goal.returns
+returns c =
+    let p = c.requires in
+    let f = p.n_bound.1.1.1 in
+    let e = c.count_at-c.ensures in
+    shared _ _ _ _ _ _ p.fact.0 p.fact.1.0 p.fact.1.1 _ _ p.joined_line _ _ _ _ _ _ _ p.k_value.0 p.k_value.1.0 p.k_value.1.1 e (omega arith)
+    c.placed_line-row.ensures c.put.ensures c.put-2.ensures c.put-3.ensures
