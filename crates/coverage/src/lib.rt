@@ -1,4 +1,6 @@
 // The call coverage: how much of a space's mapped pages lies in ranges. It judges what it is lent and writes nothing.
+#![tactic(auto)]
+
 ghost use Rattle.std.specs.Prelude.{◌≡◌, true, ◌&&◌, ◌<◌, length};
 ghost use Rattle.runs.specs.PageWords.{pages_in_space, mapped, range_bit};
 ghost use Rattle.words.specs.Counts.{count, one-if};
@@ -57,7 +59,7 @@ fn one_if_in_range(w: u32) -> u32
 }
 
 // Pages of a space: the mapped ones, and those of them that lie in ranges.
-#[derive(Drop)]
+#[derive(Clone, Copy)]
 struct Counted {
     mapped: u32,
     within: u32,

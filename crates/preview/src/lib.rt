@@ -1,4 +1,6 @@
 // The call preview: what a map would answer, and the ranges that its space would then have. It judges what it is lent and writes nothing.
+#![tactic(auto)]
+
 ghost use Rattle.std.specs.Prelude.{◌≡◌, true, ◌+◌, ◌≤◌, length};
 ghost use Rattle.words.specs.Counts.{count};
 ghost use Rattle.blocks.specs.FrameWords.{lawful, free_in};

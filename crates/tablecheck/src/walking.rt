@@ -18,7 +18,7 @@ use runs::{PAGE_WORDS, PAGES, Page, RANGE_WORDS, SPACES};
 use words::scans::counts_beside;
 
 // What a walk finds: whether the words are sound, and where they are, how many pages are mapped.
-#[derive(Drop)]
+#[derive(Clone, Copy)]
 pub struct Walked {
     pub sound: bool,
     pub mapped: u32,
