@@ -1,4 +1,6 @@
 // Reads records of calls from standard input, makes each call on one pool and two units, and writes a line for each.
+#![tactic(auto)]
+
 mod input;
 mod output;
 
