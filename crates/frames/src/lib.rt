@@ -1,5 +1,7 @@
 // The frame pool as it ships: set up, check, count, allocate and free over a lent buffer of 4,096 frame words.
 // Each call judges what it is lent. The functions of `unchecked` ask for that beforehand, and serve callers that have judged it themselves.
+#![tactic(auto)]
+
 pub mod unchecked;
 
 ghost use Rattle.std.specs.Prelude.{◌≡◌, []};

@@ -1,4 +1,6 @@
 // Free blocks made from the owners alone, so that buddies merge, and the check that the words of a buffer are these.
+#![tactic(auto)]
+
 mod checking;
 mod freeing;
 mod settling;

@@ -1,4 +1,6 @@
 // The steps that alter pages. Each is lent the buffers of all spaces and lends on one space's 1,024 page words and 512 range words, where the words of a span change and range bits and range words are rebuilt. `preview_space` is lent a copy of one space's page words, and the frame words to read: what a map would make of them.
+#![tactic(auto)]
+
 mod mapping;
 mod previewing;
 mod protecting;

@@ -1,4 +1,5 @@
 // What a call on the tables tests before it answers: lengths, soundness, spans and mapped pages.
+#![tactic(auto)]
 mod soundness;
 mod spans;
 mod walking;

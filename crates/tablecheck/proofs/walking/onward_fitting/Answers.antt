@@ -1,0 +1,22 @@
+use Prim.Native.Nat.{◌+◌, ◌<◌}
+use Rattle.tablecheck.proofs.WalkingLaws.{named_none, named-scanned}
+use Rattle.runs.proofs.StepLaws.{onward-scanned}
+use Rattle.runs.proofs.WordLaws.{mapped-lt, frame-lt}
+use native.Mathlib.Omega.{arith}
+use mathlib.Core.Path.{refl}
+use borrow.Author.Rules.{rules}
+use Rattle.tablecheck.proofs.walking.onward_fitting.Goals as goal
+
+pub returns-then-pool-f : goal.returns-then-pool-f
+returns-then-pool-f c = record { onward = record { room = omega arith; frames = omega (arith, frame-lt c.args.w); next = λ j lt. absurd (omega arith) }; named = named_none _ _ _ _ _ refl }
+
+pub overflow_add-w : goal.overflow_add-w
+overflow_add-w c = omega (arith, mapped-lt _ c.requires.w_value)
+
+pub counts_beside-requires : goal.counts_beside-requires
+counts_beside-requires c = let low = mapped-lt _ c.requires.w_value in
+    record { n_in_bounds = (omega arith, omega arith); n_in_bounds_2 = (omega arith, omega arith) }
+
+pub returns : goal.returns
+returns c = let top : c.frame_in-f.result.0 + c.least-most.result < c.args.pool = omega arith in
+    record { onward = onward-scanned _ _ _ _ _ _ _ _ (omega arith) c.least-most.ensures.upper_bound (omega (arith, c.frame_in-f.ensures)) c.counts_beside.ensures; named = rw c.frame_in-f.ensures at (named-scanned _ _ _ _ _ _ _ _ _ top c.counts_beside.ensures) }

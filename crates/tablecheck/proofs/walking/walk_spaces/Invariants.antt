@@ -1,0 +1,21 @@
+use borrow.Author.Rules.{rules}
+use mathlib.Core.Path.{◌≡◌, refl, sym, ◌∙◌}
+use Prim.Native.Nat.{◌*◌, ◌≤◌, ◌-◌}
+use native.Mathlib.Omega.{arith}
+use borrow.Author.Tests.{not-true, not-false}
+use Rattle.words.specs.Counts.{count}
+use Rattle.words.specs.Searches.{all_from}
+use Rattle.words.proofs.Cases.{true-false}
+use Rattle.words.proofs.SearchLaws.{all-step, all-stop, all_end}
+use Rattle.words.proofs.CountLaws.{count-le}
+use Rattle.layout.specs.Tables.{space_pages}
+use Rattle.tablecheck.specs.Inner.{page_mapped, space_sound}
+use Rattle.tablecheck.proofs.WalkingLaws.{count-start, count-space, space-lent, count-lent}
+use Rattle.tablecheck.proofs.walking.walk_spaces.Given as goal
+
+abbrev pub invariant-loop-s : goal.invariant-loop-s
+invariant-loop-s l = (l.s ≤ 4)
+    × ((all_from 4 0 (space_sound l.mask l.frames l.pool l.pages l.ranges) ≡ all_from (4 - l.s) l.s (space_sound l.mask l.frames l.pool l.pages l.ranges)) × (l.m ≡ count (1024 * l.s) (page_mapped l.pages)))
+
+abbrev pub decreases-loop-s : goal.decreases-loop-s
+decreases-loop-s l = 4 - l.s
