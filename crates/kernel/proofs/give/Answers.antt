@@ -1,4 +1,3 @@
-use borrow.Author.Rules.{rules}
 use Rattle.words.proofs.PlaceLaws.{given-there, given-same}
 use Rattle.kernel.proofs.give.Goals as goal
 

@@ -1,5 +1,4 @@
 use Rattle.kernel.proofs.ExportLaws.{exported, no_place}
-use borrow.Author.Rules.{rules}
 use Rattle.kernel.proofs.yavrestom_protect.Goals as goal
 
 pub returns-then-values-ne-VALUES : goal.returns-then-values-ne-VALUES

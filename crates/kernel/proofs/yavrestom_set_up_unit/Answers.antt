@@ -2,7 +2,6 @@ use Rattle.kernel.proofs.ExportLaws.{no-values, no-unit, written}
 use Rattle.history.proofs.Published.{fresh-number}
 use mathlib.Core.Path.{◌∙◌}
 use Rattle.history.specs.Units.{fresh_unit}
-use borrow.Author.Rules.{rules}
 use Rattle.kernel.proofs.yavrestom_set_up_unit.Goals as goal
 
 pub returns-then-values-ne-VALUES : goal.returns-then-values-ne-VALUES

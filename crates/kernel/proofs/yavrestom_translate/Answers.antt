@@ -1,5 +1,4 @@
 use Rattle.kernel.proofs.ExportLaws.{no-values, no-unit, written, unwritten, read-called}
-use borrow.Author.Rules.{rules}
 use Rattle.kernel.proofs.yavrestom_translate.Goals as goal
 
 pub returns-then-values-ne-VALUES : goal.returns-then-values-ne-VALUES
