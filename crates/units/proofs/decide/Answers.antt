@@ -1,0 +1,20 @@
+use borrow.Author.Rules.{rules}
+use mathlib.Core.Path.{◌∙◌, subst, sym}
+use Prim.Native.Nat.{◌≤◌}
+use Rattle.words.specs.Rows.{Promised}
+use Rattle.layout.specs.Answers.{outcome}
+use Rattle.history.specs.declared.Unit.{Unit as TlbUnit}
+use Rattle.history.specs.Translate.{found_row}
+use Rattle.history.proofs.CatchLaws.{caught-next}
+use Rattle.units.specs.declared.Translation.{Translation}
+use Rattle.units.proofs.TranslationLaws.{refused-unit, accepted-unit, as-beside}
+use Rattle.units.proofs.decide.Goals as goal
+
+pub returns-then-o-ne0 : goal.returns-then-o-ne0
+returns-then-o-ne0 c = as-beside _ _ _ _ _ c.beside.ensures (refused-unit _ _ _ _ _ _ _ _ _ _ _ _ c.caught_up-v.ensures c.word_of.ensures c.find-f.ensures c.answer_found-answer.ensures c.outcome-o.ensures c.if-o-ne0.true)
+
+pub install_found-requires : goal.install_found-requires
+install_found-requires c = record { ranges_len = c.requires.ranges_len; space_le_last_space = c.requires.space_le_last_space.0; next_le_largest_place = subst (λ (y : TlbUnit). y.next ≤ 31) (sym c.caught_up-v.ensures) (caught-next _ _ c.requires.next_le_largest_place) }
+
+pub returns : goal.returns
+returns c = as-beside _ _ _ _ _ c.beside-2.ensures (accepted-unit _ _ _ _ _ _ _ _ _ _ _ _ c.caught_up-v.ensures c.word_of.ensures c.find-f.ensures c.answer_found-answer.ensures c.outcome-o.ensures _ c.if-o-ne0.false c.install_found.ensures)
