@@ -1,7 +1,9 @@
 // What a record does to the tables and two units.
-mod steps;
+#![tactic(auto)]
 
-pub use crate::steps::{fresh_units, malformed, needs_unit, take, take_beside};
+mod taking;
+
+pub use crate::taking::{fresh_units, malformed, needs_unit, take, take_beside};
 use history::Unit;
 use words::Outcome;
 

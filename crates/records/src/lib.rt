@@ -1,4 +1,6 @@
 // Records of calls as bytes, the bytes that wait to be taken, and the lines of the listing.
+#![tactic(auto)]
+
 mod input;
 mod lines;
 mod records;
