@@ -1,5 +1,6 @@
 // Units: whether one is well formed, and catching up with the removal records. A unit goes in by value and comes back.
 #![tactic(auto)]
+
 mod catch_up;
 mod formed;
 

@@ -47,7 +47,7 @@ pub fn judge_buffer(tree: &[u32]) -> u32
 // The first range that ends behind the page, in a lawful tree.
 pub fn search(tree: &[u32], page: Page) -> Path
     requires tree_len { length tree.now ≡ 1537 }
-    requires tree_value { lawful tree.now ≡ true }
+    requires lawful_tree { lawful tree.now ≡ true }
     ensures { result ≡ search_tree (height_of tree.now) (tree_at tree.now (height_of tree.now) (root_in tree.now)) page.0 }
 {
     let h = height(tree);
@@ -87,7 +87,7 @@ pub fn page_value(r: Range, page: Page) -> u32
 // Whether a range of the tree overlaps r.
 fn overlaps_held(tree: &[u32], r: Range) -> bool
     requires tree_len { length tree.now ≡ 1537 }
-    requires tree_value { (lawful tree.now ≡ true) × (misplaced r ≡ false) }
+    requires lawful_tree { (lawful tree.now ≡ true) × (misplaced r ≡ false) }
     ensures { result ≡ overlaps r (contents_of tree.now) }
 {
     let p = search(tree, Page(r.base));
@@ -101,7 +101,7 @@ fn overlaps_held(tree: &[u32], r: Range) -> bool
 // 6, 17, 8 or 11 if the range is refused beside those of a lawful tree, or else 0.
 pub fn judge_range(tree: &[u32], r: Range) -> u32
     requires tree_len { length tree.now ≡ 1537 }
-    requires tree_value { lawful tree.now ≡ true }
+    requires lawful_tree { lawful tree.now ≡ true }
     ensures { result ≡ decide (beside_refusals r (contents_of tree.now)) 0 }
 {
     if reserved_rights(r.rights) {

@@ -1,5 +1,6 @@
 // Whether a call is refused, and by what: the first refusal that applies, or Done with zeros. Nothing is written here.
 #![tactic(auto)]
+
 mod spans;
 
 ghost use Rattle.std.specs.Prelude.{◌≡◌, eqb, length};

@@ -1,5 +1,6 @@
 // What a call on the tables tests before it answers: lengths, soundness, spans and mapped pages.
 #![tactic(auto)]
+
 mod soundness;
 mod spans;
 mod walking;

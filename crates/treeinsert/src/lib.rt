@@ -116,10 +116,10 @@ fn new_root(tree: &mut [u32], leaf: bool, s: Range, x: u32, y: u32)
 // The range into the tree, which is h levels high.
 pub fn insert_root(tree: &mut [u32], h: u32, r: Range)
     requires tree_len { length tree.old ≡ 1537 }
-    requires tree_value { lawful tree.old ≡ true }
+    requires lawful_tree { lawful tree.old ≡ true }
     requires h_value { h ≡ height_of tree.old }
-    requires r_value { proper r ≡ true }
-    requires tree_value_2 { overlaps r (contents_of tree.old) ≡ false }
+    requires proper_range { proper r ≡ true }
+    requires no_overlap { overlaps r (contents_of tree.old) ≡ false }
     ensures holding { Holding tree.new (insert_tree r (tree_of tree.old)) }
     ensures others_stay { OthersStay tree.old (nodes (tree_of tree.old).height (tree_of tree.old).tree) (insertion_way r.base (tree_of tree.old).height (tree_of tree.old).tree) tree.new }
 {

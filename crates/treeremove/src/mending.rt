@@ -46,7 +46,7 @@ fn merge(tree: &mut [u32], leaf: bool, n: usize, j: usize, x: usize, y: usize, k
     requires n_bound { (n ≤ 63) × ((x ≤ 63) × ((y ≤ 63) × ((j ≤ 4) × ((1 ≤ count_in tree.old n) × (count_in tree.old n ≤ 4))))) }
     requires k_value { (k ≡ count_in tree.old x + 1 + count_in tree.old y) × (k ≤ 4) }
     requires joined_line { JoinedLine tree.old x (range_in tree.old n j) y line.ranges line.kids }
-    requires fact { (x ≡ n → ⊥) × ((y ≡ n → ⊥) × (x ≡ y → ⊥)) }
+    requires apart { (x ≡ n → ⊥) × ((y ≡ n → ⊥) × (x ≡ y → ⊥)) }
     ensures { Merged tree.old leaf n j x y tree.new }
 {
     let rest = closed_line(tree, n, j);
@@ -62,7 +62,7 @@ fn share(tree: &mut [u32], leaf: bool, n: usize, j: usize, x: usize, y: usize, k
     requires n_bound { (n ≤ 63) × ((x ≤ 63) × ((y ≤ 63) × (count_in tree.old n ≤ 4))) }
     requires k_value { (k ≡ count_in tree.old x + count_in tree.old y - 2) × ((2 ≤ k) × (k ≤ 3)) }
     requires joined_line { JoinedLine tree.old x (range_in tree.old n j) y line.ranges line.kids }
-    requires fact { (x ≡ n → ⊥) × ((y ≡ n → ⊥) × (x ≡ y → ⊥)) }
+    requires apart { (x ≡ n → ⊥) × ((y ≡ n → ⊥) × (x ≡ y → ⊥)) }
     ensures { Shared tree.old leaf n j x y tree.new }
 {
     let middle = line.ranges[2];

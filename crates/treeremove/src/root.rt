@@ -25,7 +25,7 @@ fn drop_root(tree: &mut [u32], n: usize, v: u32)
 // Out of the tree, of h levels: the range of this BASE, or the last one where all are lower; a root without ranges goes.
 pub fn remove_root(tree: &mut [u32], h: u32, base: u32)
     requires tree_len { length tree.old ≡ 1537 }
-    requires tree_value { lawful tree.old ≡ true }
+    requires lawful_tree { lawful tree.old ≡ true }
     requires h_value { (h ≡ height_of tree.old) × (1 ≤ h) }
     ensures holding { Holding tree.new (remove_tree base (tree_of tree.old)) }
     ensures others_stay { OthersStay tree.old (nodes (height_of tree.old) (tree_at tree.old (height_of tree.old) (root_in tree.old))) (removal_way base (height_of tree.old) (tree_at tree.old (height_of tree.old) (root_in tree.old))) tree.new }

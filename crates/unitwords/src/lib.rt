@@ -1,5 +1,6 @@
 // A translation unit as words: read from a lent buffer, and written into one.
 #![tactic(auto)]
+
 ghost use Rattle.std.specs.Prelude.{◌≡◌, ◌<◌, length};
 ghost use Rattle.words.specs.Tables.{tabulate};
 ghost use Rattle.history.specs.Units.{range_entries, page_entries};

@@ -10,7 +10,7 @@ pub returns-then-page-gt-LAST_PAGE : goal.returns-then-page-gt-LAST_PAGE
 returns-then-page-gt-LAST_PAGE c = let f = is-fine _ (sym c.judge_buffer-judged.ensures ∙ c.if-judged-ne0.false) in rw c.answer-then-page-gt-LAST_PAGE.ensures (lookup-past _ f.0 f.1 _ (omega arith))
 
 pub search-p-requires : goal.search-p-requires
-search-p-requires c = let it = is-fine _ (sym c.judge_buffer-judged.ensures ∙ c.if-judged-ne0.false) in record { tree_len = it.0; tree_value = it.1 }
+search-p-requires c = let it = is-fine _ (sym c.judge_buffer-judged.ensures ∙ c.if-judged-ne0.false) in record { tree_len = it.0; lawful_tree = it.1 }
 
 pub returns-then-not-has_page : goal.returns-then-not-has_page
 returns-then-not-has_page c = let f = is-fine _ (sym c.judge_buffer-judged.ensures ∙ c.if-judged-ne0.false) in rw c.answer-then-not-has_page.ensures (lookup-none _ f.0 f.1 _ (omega arith) _ c.search-p.ensures (sym c.has_page.ensures ∙ c.if-not-has_page.true))

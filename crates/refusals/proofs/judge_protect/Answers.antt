@@ -1,11 +1,9 @@
 use borrow.Author.Rules.{rules}
 use mathlib.Core.Path.{ap, sym, ◌∙◌}
 use mathlib.Core.Bool.{not}
-use borrow.Author.Tests.{not-true, not-false, le-ltb, lt-ltb}
 use Rattle.words.specs.Rows.{refusal}
 use Rattle.words.proofs.RefusalLaws.{refused, passed, decided}
 use Rattle.words.proofs.RowLaws.{none_first, stops, refused-then, judged-then}
-use Rattle.refusals.specs.Inner.{shared}
 use Rattle.refusals.proofs.ConditionLaws.{shared-order, shared-shown, protect-parts, all-by}
 use Rattle.refusals.proofs.judge_protect.Goals as goal
 

@@ -1,7 +1,5 @@
-use borrow.Author.Rules.{rules}
 use mathlib.Core.Path.{ap, sym, ◌∙◌}
 use mathlib.Core.Bool.{not}
-use borrow.Author.Tests.{not-true, not-false}
 use Rattle.words.specs.Rows.{refusal, number_of, after}
 use Rattle.words.proofs.RefusalLaws.{refused, passed, decided}
 use Rattle.layout.specs.Calls.{sized_row, row}

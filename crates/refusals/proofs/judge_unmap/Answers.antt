@@ -1,4 +1,3 @@
-use borrow.Author.Rules.{rules}
 use mathlib.Core.Path.{ap, sym, ◌∙◌}
 use Rattle.words.specs.Rows.{refusal}
 use Rattle.refusals.proofs.ConditionLaws.{unmap-parts}

@@ -1,4 +1,3 @@
-use borrow.Author.Rules.{rules}
 use mathlib.Core.Path.{sym, ap, ◌∙◌}
 use Rattle.layout.specs.Answers.{outcome}
 use Rattle.refusals.proofs.outcome.Goals as goal

@@ -1,4 +1,3 @@
-use borrow.Author.Rules.{rules}
 use mathlib.Core.Path.{refl}
 use Rattle.layout.proofs.SoundLaws.{lengths-at}
 use Rattle.layout.specs.declared.TableCall.TheVariants.{Map}

@@ -1,4 +1,3 @@
-use borrow.Author.Rules.{rules}
 use Rattle.layout.proofs.SoundLaws.{lengths-at}
 use Rattle.layout.specs.declared.TableCall.TheVariants.{Protect}
 use Rattle.layout.proofs.CallLaws.{call-refused, call-asked, protect-facts}

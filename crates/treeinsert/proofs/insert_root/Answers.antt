@@ -6,14 +6,14 @@ use borrow.Author.Rules.{rules}
 use Rattle.treeinsert.proofs.insert_root.Goals as goal
 
 pub insert_node-up-requires : goal.insert_node-up-requires
-insert_node-up-requires c = record { tree_len = c.requires.tree_len; ready = ready-here _ _ c.requires.tree_value c.requires.r_value c.requires.tree_value_2 _ _ c.requires.h_value c.root_at-root.ensures }
+insert_node-up-requires c = record { tree_len = c.requires.tree_len; ready = ready-here _ _ c.requires.lawful_tree c.requires.proper_range c.requires.no_overlap _ _ c.requires.h_value c.root_at-root.ensures }
 
 pub returns-then-not-up : goal.returns-then-not-up
-returns-then-not-up c = let it = whole_here _ _ c.requires.tree_value c.requires.r_value c.requires.tree_value_2 _ _ c.requires.h_value c.root_at-root.ensures _ _ c.insert_node-up.ensures (not-true _ c.if-not-up.true) (search rules) in record { holding = it.0; others_stay = it.1 }
+returns-then-not-up c = let it = whole_here _ _ c.requires.lawful_tree c.requires.proper_range c.requires.no_overlap _ _ c.requires.h_value c.root_at-root.ensures _ _ c.insert_node-up.ensures (not-true _ c.if-not-up.true) (search rules) in record { holding = it.0; others_stay = it.1 }
 
 pub new_root-requires : goal.new_root-requires
-new_root-requires c = record { tree_len = search rules; bound = take-here _ _ c.requires.tree_value c.requires.r_value c.requires.tree_value_2 _ _ c.requires.h_value c.root_at-root.ensures _ _ c.insert_node-up.ensures (not-false _ c.if-not-up.false) }
+new_root-requires c = record { tree_len = search rules; bound = take-here _ _ c.requires.lawful_tree c.requires.proper_range c.requires.no_overlap _ _ c.requires.h_value c.root_at-root.ensures _ _ c.insert_node-up.ensures (not-false _ c.if-not-up.false) }
 
 pub returns : goal.returns
 unfolding root_in
-returns c = let it = root-here _ _ c.requires.tree_value c.requires.r_value c.requires.tree_value_2 _ _ c.requires.h_value c.root_at-root.ensures _ _ c.insert_node-up.ensures _ _ refl (not-false _ c.if-not-up.false) c.new_root.ensures (search rules) in record { holding = it.0; others_stay = it.1 }
+returns c = let it = root-here _ _ c.requires.lawful_tree c.requires.proper_range c.requires.no_overlap _ _ c.requires.h_value c.root_at-root.ensures _ _ c.insert_node-up.ensures _ _ refl (not-false _ c.if-not-up.false) c.new_root.ensures (search rules) in record { holding = it.0; others_stay = it.1 }

@@ -1,8 +1,6 @@
-use borrow.Author.Rules.{rules}
 use mathlib.Core.Path.{ap, sym, ◌∙◌}
 use mathlib.Core.Bool.{not}
 use native.Mathlib.Omega.{arith}
-use borrow.Author.Tests.{not-true, not-false}
 use Rattle.words.proofs.RefusalLaws.{refused, passed, decided}
 use Rattle.history.specs.Translate.{allows, finding_row}
 use Rattle.units.proofs.TranslationLaws.{finding-refused, finding-given}

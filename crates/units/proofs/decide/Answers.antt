@@ -1,12 +1,7 @@
-use borrow.Author.Rules.{rules}
-use mathlib.Core.Path.{◌∙◌, subst, sym}
+use mathlib.Core.Path.{subst, sym}
 use Prim.Native.Nat.{◌≤◌}
-use Rattle.words.specs.Rows.{Promised}
-use Rattle.layout.specs.Answers.{outcome}
 use Rattle.history.specs.declared.Unit.{Unit as TlbUnit}
-use Rattle.history.specs.Translate.{found_row}
 use Rattle.history.proofs.CatchLaws.{caught-next}
-use Rattle.units.specs.declared.Translation.{Translation}
 use Rattle.units.proofs.TranslationLaws.{refused-unit, accepted-unit, as-beside}
 use Rattle.units.proofs.decide.Goals as goal
 

@@ -1,5 +1,4 @@
-use borrow.Author.Rules.{rules}
-use mathlib.Core.Path.{◌∙◌, refl}
+use mathlib.Core.Path.{refl}
 use Rattle.history.specs.Units.{fresh_unit}
 use Rattle.units.proofs.TranslationLaws.{fresh-called}
 use Rattle.units.proofs.fresh.Goals as goal

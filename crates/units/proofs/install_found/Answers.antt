@@ -1,4 +1,3 @@
-use borrow.Author.Rules.{rules}
 use mathlib.Core.Path.{◌∙◌, ap}
 use Rattle.history.specs.Translate.{installed}
 use Rattle.units.proofs.TranslationLaws.{lent-ranges}

@@ -1,4 +1,3 @@
-use borrow.Author.Rules.{rules}
 use Rattle.units.proofs.TranslationLaws.{host-fine, host-refused, request-fine, request-refused, request-decided, as-beside}
 use Rattle.units.proofs.translated.Goals as goal
 

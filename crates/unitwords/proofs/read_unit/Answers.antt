@@ -1,5 +1,4 @@
 use Rattle.unitwords.proofs.EntryLaws.{read_all}
-use borrow.Author.Rules.{rules}
 use Rattle.unitwords.proofs.read_unit.Goals as goal
 
 pub returns : goal.returns

@@ -1,12 +1,8 @@
-use Rattle.unitwords.proofs.EntryLaws.{tabled_to, none-tabled, all-tabled, next-page}
-use Rattle.unitwords.specs.UnitWords.{page_entry_at}
+use Rattle.unitwords.proofs.EntryLaws.{none-tabled, all-tabled, next-page}
 use Rattle.invalidation.specs.Entries.{with_pages}
 use Rattle.history.specs.Units.{no_page}
-use lib.ListN.{length, length-map}
 use native.Mathlib.Omega.{arith}
-use Prim.Native.Nat.{◌≤◌, ◌-◌}
-use mathlib.Core.Path.{◌≡◌, ap, ◌∙◌}
-use borrow.Author.Rules.{rules}
+use mathlib.Core.Path.{ap, ◌∙◌}
 use Rattle.unitwords.proofs.with_pages.Goals as goal
 
 pub loop-k-init : goal.loop-k-init

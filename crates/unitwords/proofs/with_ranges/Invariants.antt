@@ -1,12 +1,9 @@
-use Rattle.unitwords.proofs.EntryLaws.{tabled_to, none-tabled, all-tabled, next-range}
+use Rattle.unitwords.proofs.EntryLaws.{tabled_to}
 use Rattle.unitwords.specs.UnitWords.{range_entry_at}
 use Rattle.invalidation.specs.Entries.{with_ranges}
-use Rattle.history.specs.Units.{no_range}
-use lib.ListN.{length, length-map}
-use native.Mathlib.Omega.{arith}
+use lib.ListN.{length}
 use Prim.Native.Nat.{◌≤◌, ◌-◌}
-use mathlib.Core.Path.{◌≡◌, ap, ◌∙◌}
-use borrow.Author.Rules.{rules}
+use mathlib.Core.Path.{◌≡◌}
 use Rattle.unitwords.proofs.with_ranges.Given as goal
 
 abbrev pub invariant-loop-k : goal.invariant-loop-k

@@ -1,6 +1,5 @@
 use Rattle.words.proofs.WriteLaws.{put_all}
 use Rattle.unitwords.specs.UnitWords.{words_behind_entries}
-use borrow.Author.Rules.{rules}
 use Rattle.unitwords.proofs.write_last.Goals as goal
 
 pub returns : goal.returns

@@ -1,11 +1,9 @@
-use Rattle.unitwords.proofs.EntryLaws.{written_to, none_written, one_written, all-written}
+use Rattle.unitwords.proofs.EntryLaws.{none_written, one_written, all-written}
 use Rattle.unitwords.specs.UnitWords.{page_entry_words}
 use Rattle.history.specs.Units.{no_page}
-use lib.ListN.{length, length-map}
 use native.Mathlib.Omega.{arith}
-use Prim.Native.Nat.{ℕ, ◌+◌, ◌*◌, ◌≤◌, ◌-◌}
-use mathlib.Core.Path.{◌≡◌, refl, ◌∙◌}
-use borrow.Author.Rules.{rules}
+use Prim.Native.Nat.{ℕ, ◌+◌, ◌*◌, ◌-◌}
+use mathlib.Core.Path.{refl, ◌∙◌}
 use Rattle.unitwords.proofs.write_pages.Goals as goal
 
 pub loop-k-init : goal.loop-k-init

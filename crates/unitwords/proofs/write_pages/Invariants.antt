@@ -1,11 +1,8 @@
-use Rattle.unitwords.proofs.EntryLaws.{written_to, none_written, one_written, all-written}
+use Rattle.unitwords.proofs.EntryLaws.{written_to}
 use Rattle.unitwords.specs.UnitWords.{page_entry_words}
-use Rattle.history.specs.Units.{no_page}
-use lib.ListN.{length, length-map}
-use native.Mathlib.Omega.{arith}
-use Prim.Native.Nat.{ℕ, ◌+◌, ◌*◌, ◌≤◌, ◌-◌}
-use mathlib.Core.Path.{◌≡◌, refl, ◌∙◌}
-use borrow.Author.Rules.{rules}
+use lib.ListN.{length}
+use Prim.Native.Nat.{◌≤◌, ◌-◌}
+use mathlib.Core.Path.{◌≡◌}
 use Rattle.unitwords.proofs.write_pages.Given as goal
 
 abbrev pub invariant-loop-k : goal.invariant-loop-k

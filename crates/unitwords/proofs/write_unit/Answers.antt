@@ -1,7 +1,6 @@
 use Rattle.unitwords.proofs.EntryLaws.{write-all, same-unit}
-use lib.ListN.{length, length-map}
+use lib.ListN.{length}
 use mathlib.Core.Path.{◌≡◌}
-use borrow.Author.Rules.{rules}
 use Rattle.unitwords.proofs.write_unit.Goals as goal
 
 pub returns : goal.returns

@@ -1,7 +1,6 @@
 use Rattle.invalidation.proofs.RecordLaws.{far-behind, near-behind}
 use native.Mathlib.Omega.{arith}
 use mathlib.Core.Path.{◌∙◌}
-use borrow.Author.Rules.{rules}
 use Rattle.invalidation.proofs.catch_up.caught_up.Goals as goal
 
 pub returns-then-c-seen-gt-PLACES : goal.returns-then-c-seen-gt-PLACES

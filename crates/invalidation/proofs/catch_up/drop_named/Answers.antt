@@ -1,5 +1,4 @@
 use Rattle.history.specs.CatchUp.{dropped}
-use borrow.Author.Rules.{rules}
 use Rattle.invalidation.proofs.catch_up.drop_named.Goals as goal
 
 pub returns : goal.returns

@@ -1,9 +1,7 @@
 use Rattle.invalidation.proofs.RecordLaws.{record-ends, applied-step, applied-end}
-use Rattle.history.specs.CatchUp.{applied}
 use native.Mathlib.Omega.{arith}
-use Prim.Native.Nat.{◌+◌, ◌-◌, ◌≤◌}
-use mathlib.Core.Path.{◌≡◌, refl, sym, ◌∙◌}
-use borrow.Author.Rules.{rules}
+use Prim.Native.Nat.{◌+◌}
+use mathlib.Core.Path.{refl, sym, ◌∙◌}
 use Rattle.invalidation.proofs.catch_up.drop_unseen.Goals as goal
 
 pub loop-m-init : goal.loop-m-init

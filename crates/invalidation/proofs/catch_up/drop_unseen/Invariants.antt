@@ -1,9 +1,6 @@
-use Rattle.invalidation.proofs.RecordLaws.{record-ends, applied-step, applied-end}
 use Rattle.history.specs.CatchUp.{applied}
-use native.Mathlib.Omega.{arith}
 use Prim.Native.Nat.{◌+◌, ◌-◌, ◌≤◌}
-use mathlib.Core.Path.{◌≡◌, refl, sym, ◌∙◌}
-use borrow.Author.Rules.{rules}
+use mathlib.Core.Path.{◌≡◌}
 use Rattle.invalidation.proofs.catch_up.drop_unseen.Given as goal
 
 abbrev pub invariant-loop-m : goal.invariant-loop-m

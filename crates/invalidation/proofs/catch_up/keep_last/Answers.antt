@@ -1,9 +1,7 @@
 use Rattle.invalidation.proofs.KeepLaws.{last-beyond, last-dropped, last-kept}
 use Rattle.history.specs.Units.{no_range}
-use lib.ListN.{length-map}
 use native.Mathlib.Omega.{arith}
 use mathlib.Core.Path.{sym, ◌∙◌}
-use borrow.Author.Rules.{rules}
 use Rattle.invalidation.proofs.catch_up.keep_last.Goals as goal
 
 pub returns-then-k-ge-RANGE_PLACES : goal.returns-then-k-ge-RANGE_PLACES

@@ -1,7 +1,6 @@
 use Rattle.history.specs.CatchUp.{keep_page}
 use Rattle.history.specs.Units.{no_page}
 use mathlib.Core.Path.{sym, ◌∙◌}
-use borrow.Author.Rules.{rules}
 use Rattle.invalidation.proofs.catch_up.keep_page.Goals as goal
 
 pub returns-then-names_entry : goal.returns-then-names_entry

@@ -1,12 +1,8 @@
-use Rattle.invalidation.proofs.KeepLaws.{changed_to, none-changed, all_changed, next-page}
+use Rattle.invalidation.proofs.KeepLaws.{none-changed, all_changed, next-page}
 use Rattle.invalidation.specs.Entries.{with_pages}
-use Rattle.history.specs.CatchUp.{keep_page}
 use Rattle.history.specs.Units.{no_page}
-use lib.ListN.{length, length-map}
 use native.Mathlib.Omega.{arith}
-use Prim.Native.Nat.{◌≤◌, ◌-◌}
-use mathlib.Core.Path.{◌≡◌, ap, ◌∙◌}
-use borrow.Author.Rules.{rules}
+use mathlib.Core.Path.{ap, ◌∙◌}
 use Rattle.invalidation.proofs.catch_up.keep_pages.Goals as goal
 
 pub loop-k-init : goal.loop-k-init

@@ -1,12 +1,9 @@
-use Rattle.invalidation.proofs.KeepLaws.{changed_to, none-changed, all_changed, next-page}
+use Rattle.invalidation.proofs.KeepLaws.{changed_to}
 use Rattle.invalidation.specs.Entries.{with_pages}
 use Rattle.history.specs.CatchUp.{keep_page}
-use Rattle.history.specs.Units.{no_page}
-use lib.ListN.{length, length-map}
-use native.Mathlib.Omega.{arith}
+use lib.ListN.{length}
 use Prim.Native.Nat.{◌≤◌, ◌-◌}
-use mathlib.Core.Path.{◌≡◌, ap, ◌∙◌}
-use borrow.Author.Rules.{rules}
+use mathlib.Core.Path.{◌≡◌}
 use Rattle.invalidation.proofs.catch_up.keep_pages.Given as goal
 
 abbrev pub invariant-loop-k : goal.invariant-loop-k

@@ -1,7 +1,6 @@
 use Rattle.history.specs.CatchUp.{keep_range}
 use Rattle.history.specs.Units.{no_range}
 use mathlib.Core.Path.{sym, ◌∙◌}
-use borrow.Author.Rules.{rules}
 use Rattle.invalidation.proofs.catch_up.keep_range.Goals as goal
 
 pub returns-then-overlaps : goal.returns-then-overlaps

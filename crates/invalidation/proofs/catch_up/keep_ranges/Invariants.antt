@@ -1,12 +1,9 @@
-use Rattle.invalidation.proofs.KeepLaws.{changed_to, none-changed, all_changed, next-range}
+use Rattle.invalidation.proofs.KeepLaws.{changed_to}
 use Rattle.invalidation.specs.Entries.{with_ranges}
 use Rattle.history.specs.CatchUp.{keep_range}
-use Rattle.history.specs.Units.{no_range}
-use lib.ListN.{length, length-map}
-use native.Mathlib.Omega.{arith}
+use lib.ListN.{length}
 use Prim.Native.Nat.{◌≤◌, ◌-◌}
-use mathlib.Core.Path.{◌≡◌, ap, ◌∙◌}
-use borrow.Author.Rules.{rules}
+use mathlib.Core.Path.{◌≡◌}
 use Rattle.invalidation.proofs.catch_up.keep_ranges.Given as goal
 
 abbrev pub invariant-loop-k : goal.invariant-loop-k

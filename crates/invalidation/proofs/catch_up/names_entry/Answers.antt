@@ -1,7 +1,6 @@
 use Rattle.history.specs.CatchUp.{names, names_entry}
 use Rattle.blocks.specs.Owners.{in_span}
 use borrow.Author.Tests.{eq-eqb, ne_eqb, le-leb, lt-leb}
-use borrow.Author.Rules.{rules}
 use Rattle.invalidation.proofs.catch_up.names_entry.Goals as goal
 
 pub returns-then-e-ne1 : goal.returns-then-e-ne1

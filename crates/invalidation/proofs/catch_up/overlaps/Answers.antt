@@ -1,6 +1,5 @@
 use Rattle.history.specs.CatchUp.{overlaps}
 use borrow.Author.Tests.{eq-eqb, ne_eqb, lt-ltb, le-ltb}
-use borrow.Author.Rules.{rules}
 use Rattle.invalidation.proofs.catch_up.overlaps.Goals as goal
 
 pub returns-then-e-ne1 : goal.returns-then-e-ne1

@@ -1,5 +1,4 @@
 use Rattle.history.specs.CatchUp.{removal_at}
-use borrow.Author.Rules.{rules}
 use Rattle.invalidation.proofs.catch_up.removal_at.Goals as goal
 
 pub returns : goal.returns

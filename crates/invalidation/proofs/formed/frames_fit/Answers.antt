@@ -1,7 +1,6 @@
 use Rattle.history.specs.Units.{frame_by}
 use native.Mathlib.Omega.{arith}
 use Rattle.invalidation.proofs.FrameLaws.{first-beyond, last-decides}
-use borrow.Author.Rules.{rules}
 use Rattle.invalidation.proofs.formed.frames_fit.Goals as goal
 
 pub returns-then-f-ge-LARGEST_POOL : goal.returns-then-f-ge-LARGEST_POOL

@@ -1,6 +1,5 @@
 use Rattle.history.specs.Units.{no_range, last_ok}
 use borrow.Author.Tests.{eq-eqb, ne_eqb, lt-ltb, le-ltb}
-use borrow.Author.Rules.{rules}
 use Rattle.invalidation.proofs.formed.last_ok.Goals as goal
 
 pub returns-then-k-eq-NONE_USED : goal.returns-then-k-eq-NONE_USED

@@ -1,8 +1,7 @@
 use Rattle.invalidation.specs.Entries.{zero_page}
 use Rattle.history.specs.Units.{page_entry_ok}
-use borrow.Author.Tests.{eq-eqb, ne_eqb, lt-ltb, le-ltb, le-leb, lt-leb, not-true, not-false}
+use borrow.Author.Tests.{eq-eqb, ne_eqb, lt-ltb, le-ltb, le-leb, lt-leb}
 use mathlib.Core.Path.{refl, sym, ◌∙◌}
-use borrow.Author.Rules.{rules}
 use Rattle.invalidation.proofs.formed.page_entry_ok.Goals as goal
 
 pub returns-then-e-ne1 : goal.returns-then-e-ne1

@@ -3,8 +3,7 @@ use mathlib.Core.Bool.{and-true, and-false}
 use Rattle.invalidation.specs.Entries.{zero_range}
 use Rattle.words.specs.Searches.{all_from}
 use Rattle.history.specs.Units.{range_entry_ok}
-use borrow.Author.Tests.{eq-eqb, ne_eqb, lt-ltb, le-ltb, le-leb, lt-leb, not-true, not-false}
-use borrow.Author.Rules.{rules}
+use borrow.Author.Tests.{eq-eqb, ne_eqb, lt-ltb, le-ltb, le-leb, lt-leb}
 use Rattle.invalidation.proofs.formed.range_entry_ok.Goals as goal
 
 pub returns-then-e-ne1 : goal.returns-then-e-ne1

@@ -1,12 +1,7 @@
 use Rattle.history.specs.Units.{no_range, range_entry_ok}
 use Rattle.words.proofs.SearchLaws.{all-step, all-stop, all_end, every-places}
-use Rattle.words.specs.Searches.{all_from, every}
-use borrow.Author.Tests.{not-true, not-false}
-use lib.ListN.{length, get_or, length-map}
 use native.Mathlib.Omega.{arith}
-use Prim.Native.Nat.{◌≤◌, ◌-◌}
-use mathlib.Core.Path.{◌≡◌, sym, ◌∙◌}
-use borrow.Author.Rules.{rules}
+use mathlib.Core.Path.{sym, ◌∙◌}
 use Rattle.invalidation.proofs.formed.ranges_ok.Goals as goal
 
 pub loop-k-init : goal.loop-k-init

@@ -1,7 +1,5 @@
 use Rattle.history.specs.Units.{unit_ok}
-use borrow.Author.Tests.{not-true, not-false}
 use mathlib.Core.Path.{sym, ◌∙◌}
-use borrow.Author.Rules.{rules}
 use Rattle.invalidation.proofs.formed.unit_ok.Goals as goal
 
 pub returns-then-not-pages_ok : goal.returns-then-not-pages_ok

@@ -1,7 +1,6 @@
-use borrow.Author.Rules.{rules}
 use mathlib.Core.Path.{◌≡◌, sym, ◌∙◌}
 use native.Mathlib.Omega.{arith}
-use lib.ListN.{length, length-map}
+use lib.ListN.{length}
 use Rattle.lookup.proofs.FindingLaws.{range-read, last-covers, last-not, no_last}
 use Rattle.lookup.proofs.entries.covering_place.Goals as goal
 

@@ -1,11 +1,8 @@
-use borrow.Author.Rules.{rules}
 use mathlib.Core.Bool.{false}
 use Prim.Native.Nat.{ℕ, ◌≤◌, ◌<◌, ◌-◌}
-use native.Mathlib.Omega.{arith}
-use lib.ListN.{length, length-map}
+use lib.ListN.{length}
 use Rattle.lookup.specs.Inner.{range_covers}
-use mathlib.Core.Path.{◌≡◌, sym, ◌∙◌}
-use Rattle.lookup.proofs.FindingLaws.{range-read, first-covers, none-covers, none_yet}
+use mathlib.Core.Path.{◌≡◌}
 use Rattle.lookup.proofs.entries.first_covering.Given as goal
 
 abbrev pub invariant-loop-k : goal.invariant-loop-k

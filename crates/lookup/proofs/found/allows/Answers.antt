@@ -1,4 +1,3 @@
-use borrow.Author.Rules.{rules}
 use mathlib.Core.Path.{refl}
 use Rattle.history.specs.Translate.{allows}
 use Rattle.lookup.proofs.found.allows.Goals as goal

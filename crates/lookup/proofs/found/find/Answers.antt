@@ -1,6 +1,4 @@
-use borrow.Author.Rules.{rules}
 use mathlib.Core.Path.{sym, ◌∙◌}
-use lib.ListN.{length-map}
 use Rattle.lookup.proofs.FindingLaws.{by-page, no-page, by-range, no-range, by_word, nowhere}
 use Rattle.lookup.proofs.found.find.Goals as goal
 

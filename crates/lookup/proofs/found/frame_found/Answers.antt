@@ -1,4 +1,3 @@
-use borrow.Author.Rules.{rules}
 use mathlib.Core.Path.{sym, ap, ◌∙◌}
 use Rattle.history.specs.Translate.{frame_found}
 use Rattle.history.specs.Units.{frame_by}

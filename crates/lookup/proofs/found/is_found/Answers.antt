@@ -1,4 +1,3 @@
-use borrow.Author.Rules.{rules}
 use mathlib.Core.Path.{sym, ap}
 use Rattle.history.specs.Translate.{is_found}
 use Rattle.lookup.proofs.found.is_found.Goals as goal

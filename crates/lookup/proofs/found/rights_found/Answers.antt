@@ -1,4 +1,3 @@
-use borrow.Author.Rules.{rules}
 use mathlib.Core.Path.{sym, ap, ◌∙◌}
 use Rattle.history.specs.Translate.{rights_found}
 use Rattle.lookup.proofs.found.rights_found.Goals as goal

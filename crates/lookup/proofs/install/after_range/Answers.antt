@@ -1,4 +1,3 @@
-use borrow.Author.Rules.{rules}
 use Rattle.history.specs.Units.{frame_by}
 use Rattle.lookup.proofs.FindingLaws.{entry-made}
 use mathlib.Core.Path.{refl}

@@ -1,4 +1,3 @@
-use borrow.Author.Rules.{rules}
 use mathlib.Core.Path.{sym, ap, ◌∙◌}
 use Rattle.history.specs.Translate.{installed}
 use Rattle.lookup.proofs.install.install.Goals as goal

@@ -1,4 +1,3 @@
-use borrow.Author.Rules.{rules}
 use mathlib.Core.Path.{sym, ◌∙◌}
 use borrow.Author.Tests.{not-true, not-false}
 use Rattle.tablecheck.proofs.SoundnessLaws.{pool-small, bad-control, bad-frames, bad-spaces, by-counting}

@@ -1,12 +1,7 @@
-use borrow.Author.Rules.{rules}
-use mathlib.Core.Path.{◌≡◌, refl, sym, ◌∙◌}
+use mathlib.Core.Path.{◌≡◌}
 use Prim.Native.Nat.{◌+◌, ◌≤◌, ◌-◌}
-use native.Mathlib.Omega.{arith}
-use borrow.Author.Tests.{not-true, not-false}
 use Rattle.words.specs.Searches.{all_from}
-use Rattle.words.proofs.SearchLaws.{all_start, all-step, all-stop, all_end}
 use Rattle.tablecheck.specs.Inner.{mapped_is}
-use Rattle.tablecheck.proofs.SpanLaws.{page-is}
 use Rattle.tablecheck.proofs.spans.all_are.Given as goal
 
 abbrev pub invariant-loop-p : goal.invariant-loop-p

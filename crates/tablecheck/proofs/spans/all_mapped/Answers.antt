@@ -1,4 +1,3 @@
-use borrow.Author.Rules.{rules}
 use mathlib.Core.Path.{◌∙◌}
 use Rattle.tablecheck.proofs.SpanLaws.{all_are}
 use Rattle.tablecheck.proofs.spans.all_mapped.Goals as goal

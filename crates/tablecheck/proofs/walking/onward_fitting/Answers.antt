@@ -4,7 +4,6 @@ use Rattle.runs.proofs.StepLaws.{onward-scanned}
 use Rattle.runs.proofs.WordLaws.{mapped-lt, frame-lt}
 use native.Mathlib.Omega.{arith}
 use mathlib.Core.Path.{refl}
-use borrow.Author.Rules.{rules}
 use Rattle.tablecheck.proofs.walking.onward_fitting.Goals as goal
 
 pub returns-then-pool-f : goal.returns-then-pool-f

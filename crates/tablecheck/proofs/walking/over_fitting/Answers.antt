@@ -2,10 +2,8 @@ use Rattle.tablecheck.proofs.WalkingLaws.{named_none}
 use Rattle.runs.proofs.StepLaws.{along-none}
 use Rattle.runs.proofs.WordLaws.{mapped-lt}
 use Rattle.runs.specs.Inner.{onward}
-use borrow.Author.Tests.{not-true, not-false}
 use native.Mathlib.Omega.{arith}
 use mathlib.Core.Path.{refl, sym, ◌∙◌}
-use borrow.Author.Rules.{rules}
 use Rattle.tablecheck.proofs.walking.over_fitting.Goals as goal
 
 pub returns-then-not-mapped : goal.returns-then-not-mapped

@@ -1,4 +1,3 @@
-use borrow.Author.Rules.{rules}
 use mathlib.Core.Path.{◌∙◌}
 use Rattle.tablecheck.proofs.WalkingLaws.{fits-open, fits-closed}
 use Rattle.tablecheck.proofs.walking.page_fits.Goals as goal

@@ -1,8 +1,6 @@
 use borrow.Author.Rules.{rules}
 use mathlib.Core.Path.{sym, ◌∙◌}
-use Prim.Native.Nat.{◌-◌}
 use native.Mathlib.Omega.{arith}
-use borrow.Author.Tests.{not-true, not-false}
 use Rattle.runs.proofs.WordLaws.{frame-lt}
 use Rattle.layout.proofs.PointingLaws.{page-unmapped, page-over, page-names}
 use Rattle.tablecheck.proofs.walking.page_ok.Goals as goal

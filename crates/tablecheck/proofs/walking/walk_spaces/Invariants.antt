@@ -1,16 +1,8 @@
-use borrow.Author.Rules.{rules}
-use mathlib.Core.Path.{◌≡◌, refl, sym, ◌∙◌}
+use mathlib.Core.Path.{◌≡◌}
 use Prim.Native.Nat.{◌*◌, ◌≤◌, ◌-◌}
-use native.Mathlib.Omega.{arith}
-use borrow.Author.Tests.{not-true, not-false}
 use Rattle.words.specs.Counts.{count}
 use Rattle.words.specs.Searches.{all_from}
-use Rattle.words.proofs.Cases.{true-false}
-use Rattle.words.proofs.SearchLaws.{all-step, all-stop, all_end}
-use Rattle.words.proofs.CountLaws.{count-le}
-use Rattle.layout.specs.Tables.{space_pages}
 use Rattle.tablecheck.specs.Inner.{page_mapped, space_sound}
-use Rattle.tablecheck.proofs.WalkingLaws.{count-start, count-space, space-lent, count-lent}
 use Rattle.tablecheck.proofs.walking.walk_spaces.Given as goal
 
 abbrev pub invariant-loop-s : goal.invariant-loop-s

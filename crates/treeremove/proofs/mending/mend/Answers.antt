@@ -37,7 +37,7 @@ merge-requires c =
       n_bound = (q.1.0, (k.0, (k.1.0, (omega arith, (omega arith, omega arith)))));
       k_value = (omega arith, omega arith);
       joined_line = rw c.range_at-s.ensures at c.joined_line-line.ensures;
-      fact = mend-off _ _ _ _ c.requires.le_level.0 c.requires.uneven _ _ c.child_at-x.ensures c.child_at-y.ensures;
+      apart = mend-off _ _ _ _ c.requires.le_level.0 c.requires.uneven _ _ c.child_at-x.ensures c.child_at-y.ensures;
     }
 
 pub returns-then-cx-cy-lt4 : goal.returns-then-cx-cy-lt4
@@ -60,7 +60,7 @@ share-requires c =
       n_bound = (q.1.0, (k.0, (k.1.0, omega arith)));
       k_value = (omega arith, (omega arith, omega arith));
       joined_line = rw c.range_at-s.ensures at c.joined_line-line.ensures;
-      fact = mend-off _ _ _ _ c.requires.le_level.0 c.requires.uneven _ _ c.child_at-x.ensures c.child_at-y.ensures;
+      apart = mend-off _ _ _ _ c.requires.le_level.0 c.requires.uneven _ _ c.child_at-x.ensures c.child_at-y.ensures;
     }
 
 pub returns : goal.returns

@@ -7,5 +7,5 @@ returns c =
     let p = c.requires in
     let f = p.n_bound.1.1.1 in
     let e = c.count_at-c.ensures in
-    shared _ _ _ _ _ _ p.fact.0 p.fact.1.0 p.fact.1.1 _ _ p.joined_line _ _ _ _ _ _ _ p.k_value.0 p.k_value.1.0 p.k_value.1.1 e (omega arith)
+    shared _ _ _ _ _ _ p.apart.0 p.apart.1.0 p.apart.1.1 _ _ p.joined_line _ _ _ _ _ _ _ p.k_value.0 p.k_value.1.0 p.k_value.1.1 e (omega arith)
     c.placed_line-row.ensures c.put.ensures c.put-2.ensures c.put-3.ensures

@@ -1,5 +1,4 @@
 use Rattle.units.proofs.PerformLaws.{as-asked}
-use borrow.Author.Rules.{rules}
 use Rattle.units.proofs.performing.on_tables.Goals as goal
 
 pub returns-in-SetUpPool : goal.returns-in-SetUpPool

@@ -1,5 +1,4 @@
 use Rattle.units.proofs.PerformLaws.{unit-asked}
-use borrow.Author.Rules.{rules}
 use Rattle.units.proofs.performing.on_unit.Goals as goal
 
 pub returns-in-SetUpUnit : goal.returns-in-SetUpUnit

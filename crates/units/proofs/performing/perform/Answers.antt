@@ -1,5 +1,4 @@
 use Rattle.units.proofs.PerformLaws.{beside-does, unit-does}
-use borrow.Author.Rules.{rules}
 use Rattle.units.proofs.performing.perform.Goals as goal
 
 pub returns-in-OnTables : goal.returns-in-OnTables
