@@ -2,6 +2,8 @@
 // Then times the check of sound tables, by an open of space 0 that is refused as it is open: with nothing mapped, and with every page of the four spaces mapped.
 // Then times a map and its preview on the same tables.
 // With no argument it writes what each call answers. With a number it makes that many rounds of a hundred calls of each kind, and writes the microseconds of a call in the fastest round; 0.00 says that not every call did the same, or that the system tells no time.
+#![tactic(auto)]
+
 mod cells;
 mod clock;
 mod pool_calls;

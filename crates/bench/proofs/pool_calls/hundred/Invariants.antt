@@ -1,0 +1,10 @@
+use mathlib.Core.Path.{◌≡◌}
+use Prim.Native.Nat.{◌≤◌, ◌-◌}
+use lib.ListN.{length}
+use Rattle.bench.proofs.pool_calls.hundred.Given as goal
+
+abbrev pub invariant-loop : goal.invariant-loop
+invariant-loop g l = (length l.out ≡ 4096) × (l.counter ≤ 100)
+
+abbrev pub decreases-loop : goal.decreases-loop
+decreases-loop g l = 100 - l.counter
