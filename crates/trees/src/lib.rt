@@ -8,7 +8,7 @@ pub const TREE_WORDS: usize = 1537;
 pub const NO_ROOT: u32 = 64;
 
 // A range as the list has it: pages from BASE up to LIMIT, LIMIT left out; the frame of page p is p + OFFSET modulo 2 to the power 32.
-#[derive(Clone, Copy, Drop)]
+#[derive(Clone, Copy)]
 pub struct Range {
     pub base: u32,
     pub limit: u32,
@@ -17,14 +17,14 @@ pub struct Range {
 }
 
 // What a search met: the first range that ends behind the page, LIMIT 0 where there is none, and how many nodes it visited.
-#[derive(Drop)]
+#[derive(Clone, Copy)]
 pub struct Path {
     pub range: Range,
     pub nodes: u32,
 }
 
 // How far a check of the tree has come: whether all is lawful so far, the lowest BASE that may follow, and the nodes met, 1 for each.
-#[derive(Clone, Copy, Drop)]
+#[derive(Clone, Copy)]
 pub struct Walk {
     pub ok: bool,
     pub low: u32,
@@ -32,7 +32,7 @@ pub struct Walk {
 }
 
 // What an insertion into a subtree leaves: the subtree alone, or with a range and a further node behind it.
-#[derive(Drop)]
+#[derive(Clone, Copy)]
 pub struct Up {
     pub split: bool,
     pub range: Range,
@@ -40,7 +40,7 @@ pub struct Up {
 }
 
 // Ranges and children that are to stand in one node or two: at most six and seven are, with a place to spare.
-#[derive(Clone, Copy, Drop)]
+#[derive(Clone, Copy)]
 pub struct Line {
     pub ranges: [Range; 7],
     pub kids: [u32; 8],
