@@ -60,7 +60,7 @@ fn hundred_previews<R: CpuClock>(
 }
 
 // The times of the fastest hundred of each kind.
-#[derive(Drop)]
+#[derive(Clone, Copy)]
 struct Times {
     copy: u64,
     map: u64,

@@ -11,7 +11,7 @@ use Rattle.trace.specs.Listing.{Listed, Listing}
 unfoldable pub keeps : State → List ℕ → List ℕ → Bool
 keeps s buffer lines = ltb 0 (standing (waiting s.window buffer)) && leb longest_line (length lines - s.held)
 
--- There are bytes whose lines, from record 1 on, end with the first `held` bytes of `lines`, those still to be written. That `input` is what was read and `sent` what was written, no contract of read and write lets us say
+-- There are bytes whose lines, from record 1 on, end with the first `held` bytes of `lines`, those still to be written. That `input` is what was read and `sent` what was written is not promised
 pub record Ran (T : Tables) (lines : List ℕ) (held : ℕ) : Type 0 where
   pub input : List ℕ
   pub sent : List ℕ

@@ -14,7 +14,7 @@ pub struct TwoUnits {
 }
 
 // What a line shows after the record's number, and the units afterwards.
-#[derive(Drop)]
+#[derive(Clone, Copy)]
 pub struct Step {
     pub kind: u32,
     pub outcome: Outcome,
@@ -22,7 +22,7 @@ pub struct Step {
 }
 
 // What a line shows after the number of a record that needs no unit, and whether both units are made fresh.
-#[derive(Drop)]
+#[derive(Clone, Copy)]
 pub struct Shown {
     pub kind: u32,
     pub outcome: Outcome,

@@ -55,7 +55,7 @@ fn preview_blocks(
 }
 
 // What a map costs: the blocks that it takes, and the ranges that its space then has.
-#[derive(Drop)]
+#[derive(Clone, Copy)]
 pub struct Cost {
     pub blocks: u32,
     pub ranges: u32,

@@ -13,28 +13,28 @@ use recordcalls::{TwoUnits, malformed, needs_unit, take, take_beside};
 use records::{Next, line, rest};
 
 // A turn on the units, and the units afterwards.
-#[derive(Drop)]
+#[derive(Clone, Copy)]
 struct OnUnits {
     turn: Turn,
     units: TwoUnits,
 }
 
 // A turn beside the units, and whether both are made fresh.
-#[derive(Drop)]
+#[derive(Clone, Copy)]
 struct Beside {
     turn: Turn,
     renews: bool,
 }
 
 // The state and the units after a turn.
-#[derive(Drop)]
+#[derive(Clone, Copy)]
 pub struct SteppedOn {
     pub state: State,
     pub units: TwoUnits,
 }
 
 // The state after a turn beside the units, and whether both are made fresh.
-#[derive(Drop)]
+#[derive(Clone, Copy)]
 pub struct SteppedBeside {
     pub state: State,
     pub renews: bool,
