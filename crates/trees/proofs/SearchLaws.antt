@@ -186,9 +186,3 @@ stands-less b (suc h) least k n l s = let e = s.enough in record { number = s.nu
 module _ (b : List ℕ) (l n : ℕ) where
   pub stands-level : 0 < l → Stands b l 0 n → Stands b (suc (l - 1)) 0 n
   stands-level some s = let e : l ≡ suc (l - 1) = omega arith in rw e at s
-
-  pub stands-node : 0 < l → Stands b l 0 n → (n ≤ 63) × (count_in b n ≤ 4)
-  stands-node some s = let t = stands-level some s in (t.number, t.few)
-
-  pub stands-child : (i c : ℕ) → i ≤ count_in b n → c ≡ child_in b n i → Stands b (suc l) 0 n → Stands b l 0 c
-  stands-child i c h e s = rw e (stands-less b l 2 0 (child_in b n i) (omega arith) (s.below i h))
