@@ -4,6 +4,7 @@
 // With no argument it writes what each call answers. With a number it makes that many rounds of a hundred calls of each kind, and writes the microseconds of a call in the fastest round; 0.00 says that not every call did the same, or that the system tells no time.
 #![tactic(auto)]
 
+mod buffers;
 mod cells;
 mod clock;
 mod pool_calls;

@@ -2,14 +2,15 @@
 ghost use Rattle.std.specs.Prelude.{◌≤◌, length};
 
 use crate::{cells, clock};
-use blocks::{BUFFER_WORDS, LARGEST_POOL, LAST_FRAME, Reply};
+use blocks::{BUFFER_WORDS, LARGEST_POOL, LAST_FRAME};
 use std::time::CpuClock;
 use words::Outcome;
+use words::answers::{Answer, Refused};
 
 // No frame of any pool.
 pub const NO_WISH: u32 = LARGEST_POOL;
 
-#[derive(Clone, Copy)]
+#[derive(Clone, Copy, Debug, PartialEq, Eq)]
 pub enum Call {
     SetUp,
     Check,
@@ -27,15 +28,15 @@ pub struct Request {
 }
 
 // Allocates for the owners of a request, and notes the frames in `out`.
-pub fn allocate(frames: &mut [u32], r: Request, out: &mut [u32]) -> Reply {
-    let n = r.n as usize;
-    if out.len() < n {
-        return Reply::WrongLength;
+pub fn allocate(frames: &mut [u32], r: Request, out: &mut [u32]) -> Answer {
+    match out.get_mut(..r.n as usize) {
+        Some(out) => frames::allocate(frames, r.pool, r.owner, NO_WISH, out),
+        None => Err(Refused::WrongLength),
     }
-    frames::allocate(frames, r.pool, r.owner, NO_WISH, &mut out[..n])
 }
 
-fn make(call: Call, frames: &mut [u32], r: Request, out: &mut [u32]) -> Reply {
+// Stays: a match over five calls with other arguments each; a table of closures is no plainer.
+fn make(call: Call, frames: &mut [u32], r: Request, out: &mut [u32]) -> Answer {
     match call {
         Call::SetUp => frames::set_up(frames, r.pool),
         Call::Check => frames::check(frames, r.pool),
@@ -46,7 +47,7 @@ fn make(call: Call, frames: &mut [u32], r: Request, out: &mut [u32]) -> Reply {
 }
 
 // What is seen of a call: its answer, a word of the pool and a place of `out` that it may have written.
-#[derive(Clone, Copy)]
+#[derive(Clone, Copy, Debug, PartialEq, Eq)]
 struct Seen {
     outcome: Outcome,
     word: u32,
@@ -68,54 +69,12 @@ fn look(call: Call, words: [u32; BUFFER_WORDS], r: Request, out: &mut [u32]) -> 
     }
 }
 
-fn alike(a: Seen, b: Seen) -> bool {
-    if a.word != b.word {
-        return false;
-    }
-    if a.frame != b.frame {
-        return false;
-    }
-    cells::alike(a.outcome, b.outcome)
-}
-
 // These words once allocate was called on them.
 pub fn after(words: [u32; BUFFER_WORDS], r: Request) -> [u32; BUFFER_WORDS] {
     let mut frames = words;
     let mut out = [0u32; BUFFER_WORDS];
-    allocate(&mut frames, r, &mut out);
+    let _ = allocate(&mut frames, r, &mut out);
     frames
-}
-
-// The time of a hundred calls, each on a copy of these words. Each is compared with a first one, since the compiler may leave out work whose end nothing reads.
-fn hundred<R: CpuClock>(rt: &R, call: Call, words: [u32; BUFFER_WORDS], r: Request) -> u64 {
-    let mut out = [0u32; BUFFER_WORDS];
-    let first = look(call, words, r, &mut out);
-    let mut same = true;
-    let start = clock::used(rt);
-    for _ in 0..100u32 {
-        if !alike(first, look(call, words, r, &mut out)) {
-            same = false;
-        }
-    }
-    clock::since_if(rt, same, start)
-}
-
-// The time of the fastest hundred calls out of `rounds` hundreds.
-fn fastest<R: CpuClock>(
-    rt: &R,
-    rounds: u32,
-    call: Call,
-    words: [u32; BUFFER_WORDS],
-    r: Request,
-) -> u64 {
-    let mut best = hundred(rt, call, words, r);
-    for _ in 1..rounds {
-        let t = hundred(rt, call, words, r);
-        if t < best {
-            best = t;
-        }
-    }
-    best
 }
 
 // A cell: what the call answers, or where rounds are asked for its time.
@@ -126,11 +85,11 @@ pub fn cell<R: Print + CpuClock>(
     words: [u32; BUFFER_WORDS],
     r: Request,
 ) {
+    let mut out = [0u32; BUFFER_WORDS];
+    let mut seen = || look(call, words, r, &mut out);
     if rounds == 0 {
-        let mut out = [0u32; BUFFER_WORDS];
-        let seen = look(call, words, r, &mut out);
-        cells::answer(rt, seen.outcome);
+        cells::answer(rt, seen().outcome);
     } else {
-        cells::hundredths(rt, fastest(rt, rounds, call, words, r));
+        cells::hundredths(rt, clock::fastest(rt, rounds, &mut seen));
     }
 }

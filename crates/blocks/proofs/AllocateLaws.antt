@@ -25,7 +25,7 @@ use Rattle.blocks.specs.Choice.{take_block, without, left_after, end_of, wish_af
 use Rattle.blocks.specs.Owners.{put, give}
 use Rattle.blocks.specs.Inner.Taking.{Searched, BlockTaken}
 use Rattle.blocks.specs.Inner.Around.{start_of}
-use Rattle.blocks.specs.Inner.Passes.{as_block, bound_after, PartOf, handed}
+use Rattle.blocks.specs.Inner.Passes.{bound_after, PartOf, handed}
 use Rattle.blocks.proofs.AroundLaws.{in-block, block_in}
 use Rattle.blocks.proofs.WordLaws.{owners-small, lawful-is, lawful-yes, owners-high, owners-again, table-lawful}
 use Rattle.blocks.proofs.ChoiceLaws.{Took, Taking, taking, one, end, took-free, took-count, own, length-own, frames-cons, fuel}
@@ -92,14 +92,12 @@ give-one b x o = ap (give (owners_of b) o) (append-nil (own x)) ∙ give-own b x
 -- one block
 
 -- there is one while a page is left and enough frames are free
-pub chosen_is : (F : ℕ) (b : List ℕ) (wish left : ℕ) (x : Block) → 1 ≤ left → left ≤ count F (free_in b) → x ≡ as_block (take_block F (free_in b) (some wish) left)
-    → take_block F (free_in b) (some wish) left ≡ some x
-unfolding as_block
-chosen_is F b wish left x pos enough e = go (take_block F (free_in b) (some wish) left) (taking F (free_in b) (some wish) left) e
+pub is_there : (F : ℕ) (free : ℕ → Bool) (wish left : ℕ) → 1 ≤ left → left ≤ count F free → take_block F free (some wish) left ≡ none → ⊥
+is_there F free wish left pos enough e = go (take_block F free (some wish) left) (taking F free (some wish) left) e
   where
-    go : (o : Option Block) → Taking F (free_in b) left o → x ≡ as_block o → o ≡ some x
-    go o (one y w) xy = ap some (sym xy)
-    go o (end n) xy = let r = count-some F (free_in b) (omega arith) in absurd (n r.0 r.1 r.2 pos)
+    go : (o : Option Block) → Taking F free left o → o ≡ none → ⊥
+    go o (one y w) oe = none-some y o oe refl
+    go o (end n) oe = let r = count-some F free (omega arith) in n r.0 r.1 r.2 pos
 
 pub took : (F : ℕ) (free : ℕ → Bool) (wish : Option ℕ) (left : ℕ) (x : Block) → take_block F free wish left ≡ some x → Took F free left x
 took F free wish left x e = go (take_block F free wish left) e (taking F free wish left)
@@ -125,8 +123,8 @@ module _ (F : ℕ) (b : List ℕ) (lw : lawful F b ≡ true) (wish left : ℕ) (
       omega (arith, (took-free F (free_in b) left x w (x.start.0 + (2 ^ x.order - 1)) (block_in x.order x.start.0 _ (omega arith) (omega arith))).0)
 
   -- where it lies, by what the choice says of its free block
-  pub chosen-part : (j : ℕ) → (x.order ≤ 10 → (x.order ≤ j) × (start_of j x.start.0 < F) × (get_or b (start_of j x.start.0) 0 ≡ 16384 + j)) → PartOf F b x.start.0 x.order j
-  chosen-part j e = let q = e chosen-small in record { starts = w.starts; below = q.0; inside = q.1; first = q.2 }
+  pub chosen-part : (j : ℕ) → (x.order ≤ j) × (start_of j x.start.0 < F) × (get_or b (start_of j x.start.0) 0 ≡ 16384 + j) → PartOf F b x.start.0 x.order j
+  chosen-part j q = record { starts = w.starts; below = q.0; inside = q.1; first = q.2 }
 
   -- the block, and then the blocks of the rest
   chosen-all : blocks_for F (free_in b) (some wish) left ≡ x ∷ blocks_for F (without (free_in b) x.order x.start.0) (some (end_of x)) (left - 2 ^ x.order)

@@ -1,29 +1,33 @@
 -- The pool's calls, way out by way out: what each answers and leaves.
 use mathlib.Core.Path.{◌≡◌, refl, ap, ◌∙◌, sym}
 use mathlib.Core.Bool.{true, false, ◌&&◌, not}
-use mathlib.Core.List.{List, []}
+use mathlib.Core.List.{List, [], ◌∷◌}
 use Prim.Native.Nat.{ℕ, ◌+◌, ◌-◌, ◌<◌, ◌≤◌}
 use native.Mathlib.Omega.{arith}
 use lib.Dec.{leb}
 use lib.ListN.{length}
-use borrow.Author.Tests.{leb-true, le-leb, eq-eqb, ne_eqb, lt-ltb, le-ltb, not-false}
-use Rattle.words.specs.declared.Outcome.{Outcome}
+use borrow.Author.Tests.{leb-true, le-leb, eq-eqb, eqb-true, ne_eqb, lt-ltb, le-ltb, not-false, not-true}
+use Rattle.std.specs.Prelude.{Ok, Err}
+use Rattle.words.specs.declared.answers.Values.{Values}
+use Rattle.words.specs.declared.answers.Refused.{Refused}
+use Rattle.words.specs.declared.answers.Refused.TheVariants.{WrongSpan, AlreadyMapped, NotMapped, TooFewFrames}
+use Rattle.words.specs.Answers.{number, outcome}
 use Rattle.words.specs.Counts.{count}
 use Rattle.words.specs.Searches.{all_from, any_from}
-use Rattle.words.specs.Refusals.{Refusal, numbers, Applies, here, later, NoneApplies, done, next}
-use Rattle.words.specs.Rows.{refusal, values, number_of, Exactly, refusal_order, among, in_order}
+use Rattle.words.specs.Refusals.{Refusal, decide, numbers, Applies, here, later, NoneApplies, done, next}
+use Rattle.words.specs.Rows.{values, number_of, refusal_order, among, in_order}
 use Rattle.words.proofs.Cases.{by-test, and-true, true-and, true-false}
 use Rattle.words.proofs.CountLaws.{count-mono}
-use Rattle.words.proofs.RefusalLaws.{applies-answers}
-use Rattle.words.proofs.RowLaws.{renewed, accepted-is, none_number, refused-zeros, promised-exactly, refused-call}
-use Rattle.blocks.specs.declared.Reply.TheVariants.{Done, WrongLength, Unlawful, WrongPoolSize, WrongSpan, AlreadyHeld, NotHeld, TooFewFrames}
+use Rattle.words.proofs.RefusalLaws.{applies-answers, answers-applies, none_answers}
+use Rattle.words.proofs.RowLaws.{renewed, accepted-is, none_number}
+use Rattle.words.proofs.JudgeLaws.{number-some, passes, refused-with}
 use Rattle.blocks.specs.declared.PoolCall.{PoolCall}
 use Rattle.blocks.specs.declared.PoolCall.TheVariants.{SetUp, Check, Count, Allocate, Free}
 use Rattle.blocks.specs.FrameWords.{is_pool_size, owners_of, free_in, lawful, frame_words}
 use Rattle.blocks.specs.Choice.{blocks_for, frames_for, block_count}
 use Rattle.blocks.specs.Owners.{freed, holds}
 use Rattle.blocks.specs.Inner.Taking.{FramesTaken}
-use Rattle.blocks.specs.Calls.{outcome, PoolWords, lent, in_owners, judged, freed_words, row, Called}
+use Rattle.blocks.specs.Calls.{PoolWords, lent, in_owners, wrong_length, wrong_pool_size, judged as buffer_refusals, freed_words, row, Called}
 use Rattle.blocks.specs.Statements.{LowestFirst}
 use Rattle.blocks.proofs.WordLaws.{owners-small, free-zero, at-free, lawful-is, owners-high, owners-again, size-at, at_size}
 use Rattle.blocks.proofs.FreeLaws.{freed-small, freed-zero}
@@ -60,37 +64,61 @@ lowest-first (Allocate F o w) P = refl
 lowest-first (Free F o n) P = refl
 
 module _ (c : PoolCall) (P : PoolWords) where
-  refuses-with : (o : Outcome) → o ≡ refusal o.number → (o.number ≡ 0 → ⊥) → Applies o.number (row P c).refusals → Called c P o P
-  unfolding number_of LowestFirst
-  refuses-with o z n w = refused-call (row P c) (lowest-first c P) P o o (z ∙ ap refusal (sym (applies-answers _ _ w))) refl n
+  refuses : (r : Refused) → Applies (number r) (row P c).refusals → Called c P (outcome (Err r)) P
+  unfolding number_of
+  refuses r w = refused-with (row P c) P r (sym (applies-answers _ _ w))
 
-  -- a refusal, given by its number
-  refuses : (n : ℕ) → 1 ≤ n → Applies n (row P c).refusals → Called c P (refusal n) P
-  refuses n pos w = refuses-with (refusal n) refl (λ z. omega arith) w
-
-  accepts : (v : ℕ) (P' : PoolWords) → NoneApplies (row P c).refusals → v ≡ (row P c).first → (row P c).second ≡ 0 → P' ≡ (row P c).new → Called c P (outcome (Done v)) P'
+  accepts : (v : Values) (P' : PoolWords) → NoneApplies (row P c).refusals → v ≡ record { first = (row P c).first; second = 0 } → (row P c).second ≡ 0 → P' ≡ (row P c).new → Called c P (outcome (Ok v)) P'
   accepts v P' w e z new =
       let k = none_number (row P c) w in
-      let q : values v 0 ≡ values (row P c).first (row P c).second = cc in
+      let q : values v.first v.second ≡ values (row P c).first (row P c).second = rw (e, z) in
       record { answers = q ∙ sym (accepted-is (row P c) k); leaves-new = new ∙ renewed (number_of (row P c)) (row P c).new P k }
 
--- set up
+-- the judgement of the sizes, and of the buffer, with which calls begin
 
 module _ (F : ℕ) (b : List ℕ) where
-  pub set-up-length : (length b ≡ 4096 → ⊥) → Called (SetUp F) (lent b []) (outcome WrongLength) (lent b [])
-  unfolding row
-  set-up-length n = refuses (SetUp F) (lent b []) (outcome WrongLength).number (omega arith) (here (omega arith) (ap not (ne_eqb _ _ n)))
+  pub sizes-length : (length b ≡ 4096 → ⊥) → 1 ≡ decide (wrong_length b ∷ wrong_pool_size F ∷ []) 0
+  sizes-length n = sym (applies-answers _ _ (here refl (ap not (ne_eqb _ _ n))))
 
-  module _ (len : length b ≡ 4096) where
-    pub set-up-size : is_pool_size F ≡ false → Called (SetUp F) (lent b []) (outcome WrongPoolSize) (lent b [])
+  pub sizes-size : length b ≡ 4096 → is_pool_size F ≡ false → 4 ≡ decide (wrong_length b ∷ wrong_pool_size F ∷ []) 0
+  sizes-size len f = sym (applies-answers _ _ (later (ap not (eq-eqb _ _ len)) (here refl (ap not f))))
+
+  pub sizes-right : length b ≡ 4096 → is_pool_size F ≡ true → 0 ≡ decide (wrong_length b ∷ wrong_pool_size F ∷ []) 0
+  sizes-right len t = sym (none_answers _ (next (ap not (eq-eqb _ _ len)) (next (ap not t) done)))
+
+  unsized : is_pool_size F ≡ false → (is_pool_size F && not (lawful F b)) ≡ false
+  unsized f = rw f
+
+  -- a refusal of the sizes is one of the buffer
+  sizes-more : (n : ℕ) → Applies n (wrong_length b ∷ wrong_pool_size F ∷ []) → Applies n (buffer_refusals F b [])
+  sizes-more n (here e t) = here e t
+  sizes-more n (later l (here e t)) = later l (later (unsized (not-true _ t)) (here e t))
+  sizes-more n (later l (later s r)) = elim r [ ]
+
+  -- a judgement of the sizes that refuses gives the answer of each call
+  module _ (n : Refused) (w : number n ≡ decide (wrong_length b ∷ wrong_pool_size F ∷ []) 0) where
+    pub sizes-stopped : number n ≡ decide (buffer_refusals F b []) 0
+    sizes-stopped = sym (applies-answers _ _ (sizes-more _ (answers-applies _ (number-some n) _ (sym w))))
+
+    pub set-up-stopped : Called (SetUp F) (lent b []) (outcome (Err n)) (lent b [])
     unfolding row
-    set-up-size f = refuses (SetUp F) (lent b []) (outcome WrongPoolSize).number (omega arith) (later (ap not (eq-eqb _ _ len)) (here (omega arith) (ap not f)))
+    set-up-stopped = refuses (SetUp F) (lent b []) n (answers-applies _ (number-some n) _ (sym w))
 
-    pub set-up-done : (b' : List ℕ) → is_pool_size F ≡ true → b' ≡ frame_words F (λ g. 0) → Called (SetUp F) (lent b []) (outcome (Done 0)) (lent b' [])
+  -- and one that does not
+  module _ (w : 0 ≡ decide (wrong_length b ∷ wrong_pool_size F ∷ []) 0) where
+    sizes-none : NoneApplies (wrong_length b ∷ wrong_pool_size F ∷ [])
+    unfolding LowestFirst row
+    sizes-none = passes _ (lowest-first (SetUp F) (lent b [])) w
+
+    pub right-sizes : (length b ≡ 4096) × (is_pool_size F ≡ true)
+    right-sizes = elim sizes-none [ next l (next s n) ↦ (eqb-true _ _ (not-false _ l), not-false _ s) ]
+
+    pub set-up-done : (v : Values) (b' : List ℕ) → v ≡ record { first = 0; second = 0 } → b' ≡ frame_words F (λ g. 0) → Called (SetUp F) (lent b []) (outcome (Ok v)) (lent b' [])
     unfolding row
-    set-up-done b' t w = accepts (SetUp F) (lent b []) 0 (lent b' []) (next (ap not (eq-eqb _ _ len)) (next (ap not t) done)) refl refl (ap (λ (x : List ℕ). lent x []) w)
+    set-up-done v b' ve we = accepts (SetUp F) (lent b []) v (lent b' []) sizes-none ve refl (ap (λ (x : List ℕ). lent x []) we)
 
--- the judgement that the other calls begin with
+    pub judge-unlawful : lawful F b ≡ false → 2 ≡ decide (buffer_refusals F b []) 0
+    judge-unlawful f = let s = right-sizes in sym (applies-answers _ _ (later (ap not (eq-eqb _ _ s.0)) (here refl (true-and _ _ s.1 (ap not f)))))
 
 module _ (F : ℕ) (b : List ℕ) (t : lawful F b ≡ true) where
   is-size : is_pool_size F ≡ true
@@ -100,119 +128,102 @@ module _ (F : ℕ) (b : List ℕ) (t : lawful F b ≡ true) where
   is_lawful_lem = rw (is-size, t)
 
   -- not refused so far
-  on : (n : ℕ) (rs : List (Refusal ℕ)) → Applies n rs → Applies n (judged F b rs)
+  on : (n : ℕ) (rs : List (Refusal ℕ)) → Applies n rs → Applies n (buffer_refusals F b rs)
   on n rs w = later (ap not (eq-eqb _ _ (lawful-is F b t).len)) (later is_lawful_lem (later (ap not is-size) w))
 
-  none-on : (rs : List (Refusal ℕ)) → NoneApplies rs → NoneApplies (judged F b rs)
+  none-on : (rs : List (Refusal ℕ)) → NoneApplies rs → NoneApplies (buffer_refusals F b rs)
   none-on rs w = next (ap not (eq-eqb _ _ (lawful-is F b t).len)) (next is_lawful_lem (next (ap not is-size) w))
 
+  pub judge-lawful : 0 ≡ decide (buffer_refusals F b []) 0
+  judge-lawful = sym (none_answers _ (none-on [] done))
+
 module _ (F : ℕ) (b : List ℕ) where
-  pub check-length : (length b ≡ 4096 → ⊥) → Called (Check F) (lent b []) (outcome WrongLength) (lent b [])
+  pub check_done : lawful F b ≡ true → (v : Values) → v ≡ record { first = 0; second = 0 } → Called (Check F) (lent b []) (outcome (Ok v)) (lent b [])
   unfolding row
-  check-length n = refuses (Check F) (lent b []) (outcome WrongLength).number (omega arith) (here (omega arith) (ap not (ne_eqb _ _ n)))
-
-  unsized : is_pool_size F ≡ false → (is_pool_size F && not (lawful F b)) ≡ false
-  unsized f = rw f
-
-  module _ (len : length b ≡ 4096) where
-    pub check-size : is_pool_size F ≡ false → Called (Check F) (lent b []) (outcome WrongPoolSize) (lent b [])
-    unfolding row
-    check-size f = refuses (Check F) (lent b []) (outcome WrongPoolSize).number (omega arith) (later (ap not (eq-eqb _ _ len)) (later (unsized f) (here (omega arith) (ap not f))))
-
-    pub check-unlawful : is_pool_size F ≡ true → lawful F b ≡ false → Called (Check F) (lent b []) (outcome Unlawful) (lent b [])
-    unfolding row
-    check-unlawful t f = refuses (Check F) (lent b []) (outcome Unlawful).number (omega arith) (later (ap not (eq-eqb _ _ len)) (here (omega arith) (true-and _ _ t (ap not f))))
-
-  pub check_done : lawful F b ≡ true → Called (Check F) (lent b []) (outcome (Done 0)) (lent b [])
-  unfolding row
-  check_done t = accepts (Check F) (lent b []) 0 (lent b []) (none-on F b t [] done) refl refl refl
+  check_done t v e = accepts (Check F) (lent b []) v (lent b []) (none-on F b t [] done) e refl refl
 
   pub judged-lawful : not (is_pool_size F) ≡ false → (is_pool_size F && not (lawful F b)) ≡ false → lawful F b ≡ true
   judged-lawful s u = by-test (lawful F b) (λ t. t) (λ f. true-false _ (true-and (is_pool_size F) (not (lawful F b)) (not-false _ s) (ap not f)) u)
 
-  pub none-lawful : NoneApplies (judged F b []) → lawful F b ≡ true
+  pub none-lawful : NoneApplies (buffer_refusals F b []) → lawful F b ≡ true
   none-lawful (next l (next u (next s done))) = judged-lawful s u
 
-  judged-more : (n : ℕ) (rs : List (Refusal ℕ)) → Applies n (judged F b []) → Applies n (judged F b rs)
+  judged-more : (n : ℕ) (rs : List (Refusal ℕ)) → Applies n (buffer_refusals F b []) → Applies n (buffer_refusals F b rs)
   judged-more n rs (here e t) = here e t
   judged-more n rs (later l (here e t)) = later l (here e t)
   judged-more n rs (later l (later u (here e t))) = later l (later u (here e t))
   judged-more n rs (later l (later u (later s r))) = elim r [ ]
 
-  -- as the code has it: o the outcome of what check answered, x the same
-  module _ (o x : Outcome) (w : Called (Check F) (lent b []) o (lent b [])) (xe : x ≡ o) where
-    numbered : x.number ≡ o.number
-    numbered = ap (λ (y : Outcome). y.number) xe
+  -- a judgement that does not refuse finds that the words are lawful
+  pub passed : 0 ≡ decide (buffer_refusals F b []) 0 → lawful F b ≡ true
+  unfolding LowestFirst row
+  passed w = none-lawful (passes _ (lowest-first (Check F) (lent b [])) w)
 
-    judged-exactly : Exactly (judged F b []) o.number
-    unfolding LowestFirst row
-    judged-exactly = promised-exactly _ _ _ _ w (lowest-first (Check F) (lent b []))
+  -- and one that refuses gives the answer of every call that begins with it
+  module _ (n : Refused) (w : number n ≡ decide (buffer_refusals F b []) 0) where
+    stopped : (c : PoolCall) (out : List ℕ) (rs : List (Refusal ℕ)) → (row (lent b out) c).refusals ≡ buffer_refusals F b rs → Called c (lent b out) (outcome (Err n)) (lent b out)
+    stopped c out rs e = refuses c (lent b out) n (rw e (judged-more _ rs (answers-applies _ (number-some n) _ (sym w))))
 
-    pub passed : x.number ≡ 0 → lawful F b ≡ true
-    passed z = none-lawful (judged-exactly.none (sym numbered ∙ z))
+    pub check-stopped : Called (Check F) (lent b []) (outcome (Err n)) (lent b [])
+    unfolding row
+    check-stopped = stopped (Check F) [] _ refl
 
-    -- a check that refuses gives the answer of every call that begins with it
-    stopped : (c : PoolCall) (out : List ℕ) (rs : List (Refusal ℕ)) → (row (lent b out) c).refusals ≡ judged F b rs → (x.number ≡ 0 → ⊥) → Called c (lent b out) o (lent b out)
-    stopped c out rs e n =
-        let nz : o.number ≡ 0 → ⊥ = λ z. n (numbered ∙ z) in
-        refuses-with c (lent b out) o (refused-zeros _ _ _ _ w (ne_eqb _ _ nz)) nz (rw e (judged-more _ rs (judged-exactly.only _ nz refl)))
-
-    pub count-stopped : (x.number ≡ 0 → ⊥) → Called (Count F) (lent b []) o (lent b [])
+    pub count-stopped : Called (Count F) (lent b []) (outcome (Err n)) (lent b [])
     unfolding row
     count-stopped = stopped (Count F) [] _ refl
 
-    pub allocate-stopped : (first wish : ℕ) (out : List ℕ) → (x.number ≡ 0 → ⊥) → Called (Allocate F first wish) (lent b out) o (lent b out)
+    pub allocate-stopped : (first wish : ℕ) (out : List ℕ) → Called (Allocate F first wish) (lent b out) (outcome (Err n)) (lent b out)
     unfolding row
     allocate-stopped first wish out = stopped (Allocate F first wish) out _ refl
 
-    pub free-stopped : (first n : ℕ) → (x.number ≡ 0 → ⊥) → Called (Free F first n) (lent b []) o (lent b [])
+    pub free-stopped : (first many : ℕ) → Called (Free F first many) (lent b []) (outcome (Err n)) (lent b [])
     unfolding row
-    free-stopped first n = stopped (Free F first n) [] _ refl
+    free-stopped first many = stopped (Free F first many) [] _ refl
 
-  pub count-done : lawful F b ≡ true → (m : ℕ) → m ≡ count F (free_in b) → Called (Count F) (lent b []) (outcome (Done m)) (lent b [])
+  pub count-done : lawful F b ≡ true → (m : ℕ) → m ≡ count F (free_in b) → (v : Values) → v ≡ record { first = m; second = 0 } → Called (Count F) (lent b []) (outcome (Ok v)) (lent b [])
   unfolding row
-  count-done t m e = accepts (Count F) (lent b []) m (lent b []) (none-on F b t [] done) e refl refl
+  count-done t m e v ve = accepts (Count F) (lent b []) v (lent b []) (none-on F b t [] done) (rw (← e) ve) refl refl
 
 -- allocate
 
 module _ (F : ℕ) (b : List ℕ) (o wish : ℕ) (out : List ℕ) (t : lawful F b ≡ true) where
-  pub allocate-span : in_owners o (length out) ≡ false → Called (Allocate F o wish) (lent b out) (outcome WrongSpan) (lent b out)
+  pub allocate-span : in_owners o (length out) ≡ false → Called (Allocate F o wish) (lent b out) (outcome (Err WrongSpan)) (lent b out)
   unfolding row
-  allocate-span f = refuses (Allocate F o wish) (lent b out) (outcome WrongSpan).number (omega arith) (on F b t _ _ (here (omega arith) (ap not f)))
+  allocate-span f = refuses (Allocate F o wish) (lent b out) WrongSpan (on F b t _ _ (here (omega arith) (ap not f)))
 
   module _ (i : in_owners o (length out) ≡ true) where
-    pub allocate-held : any_from (length out) o (holds F (owners_of b)) ≡ true → Called (Allocate F o wish) (lent b out) (outcome AlreadyHeld) (lent b out)
+    pub allocate-held : any_from (length out) o (holds F (owners_of b)) ≡ true → Called (Allocate F o wish) (lent b out) (outcome (Err AlreadyMapped)) (lent b out)
     unfolding row
-    allocate-held h = refuses (Allocate F o wish) (lent b out) (outcome AlreadyHeld).number (omega arith) (on F b t _ _ (later (ap not i) (here (omega arith) h)))
+    allocate-held h = refuses (Allocate F o wish) (lent b out) AlreadyMapped (on F b t _ _ (later (ap not i) (here (omega arith) h)))
 
     module _ (nobody : any_from (length out) o (holds F (owners_of b)) ≡ false) where
-      pub allocate-few : count F (free_in b) < length out → Called (Allocate F o wish) (lent b out) (outcome TooFewFrames) (lent b out)
+      pub allocate-few : count F (free_in b) < length out → Called (Allocate F o wish) (lent b out) (outcome (Err TooFewFrames)) (lent b out)
       unfolding row
-      allocate-few h = refuses (Allocate F o wish) (lent b out) (outcome TooFewFrames).number (omega arith) (on F b t _ _ (later (ap not i) (later nobody (here (omega arith) (lt-ltb _ _ h)))))
+      allocate-few h = refuses (Allocate F o wish) (lent b out) TooFewFrames (on F b t _ _ (later (ap not i) (later nobody (here (omega arith) (lt-ltb _ _ h)))))
 
-      pub allocate-done : (r : ℕ) (b' out' : List ℕ) → length out ≤ count F (free_in b) → FramesTaken F b o wish (length out) r b' out' → Called (Allocate F o wish) (lent b out) (outcome (Done r)) (lent b' out')
+      pub allocate-done : (r : ℕ) (b' out' : List ℕ) → length out ≤ count F (free_in b) → FramesTaken F b o wish (length out) r b' out' → (v : Values) → v ≡ record { first = r; second = 0 } → Called (Allocate F o wish) (lent b out) (outcome (Ok v)) (lent b' out')
       unfolding row block_count frames_for blocks_for
-      allocate-done r b' out' h w =
+      allocate-done r b' out' h w v ve =
           let same = wish-of F (free_in b) wish (length out) (length out) in
-          accepts (Allocate F o wish) (lent b out) r (lent b' out') (none-on F b t _ (next (ap not i) (next nobody (next (le-ltb _ _ h) done)))) (w.blocks ∙ ap length same) refl (rw (w.words, w.frames, same))
+          accepts (Allocate F o wish) (lent b out) v (lent b' out') (none-on F b t _ (next (ap not i) (next nobody (next (le-ltb _ _ h) done)))) (ve ∙ ap (λ (n : ℕ). record { first = n; second = 0 }) (w.blocks ∙ ap length same)) refl (rw (w.words, w.frames, same))
 
 -- free
 
 module _ (F : ℕ) (b : List ℕ) (o n : ℕ) (t : lawful F b ≡ true) where
-  pub free-span : in_owners o n ≡ false → Called (Free F o n) (lent b []) (outcome WrongSpan) (lent b [])
+  pub free-span : in_owners o n ≡ false → Called (Free F o n) (lent b []) (outcome (Err WrongSpan)) (lent b [])
   unfolding row
-  free-span f = refuses (Free F o n) (lent b []) (outcome WrongSpan).number (omega arith) (on F b t _ _ (here (omega arith) (ap not f)))
+  free-span f = refuses (Free F o n) (lent b []) WrongSpan (on F b t _ _ (here (omega arith) (ap not f)))
 
   module _ (i : in_owners o n ≡ true) where
-    pub free-missing : all_from n o (holds F (owners_of b)) ≡ false → Called (Free F o n) (lent b []) (outcome NotHeld) (lent b [])
+    pub free-missing : all_from n o (holds F (owners_of b)) ≡ false → Called (Free F o n) (lent b []) (outcome (Err NotMapped)) (lent b [])
     unfolding row
-    free-missing f = refuses (Free F o n) (lent b []) (outcome NotHeld).number (omega arith) (on F b t _ _ (later (ap not i) (here (omega arith) (ap not f))))
+    free-missing f = refuses (Free F o n) (lent b []) NotMapped (on F b t _ _ (later (ap not i) (here (omega arith) (ap not f))))
 
     pub free-done : (b' : List ℕ) (x y : ℕ) → all_from n o (holds F (owners_of b)) ≡ true → b' ≡ frame_words F (freed (owners_of b) o n)
-        → x ≡ count F (free_in b) → y ≡ count F (free_in b') → Called (Free F o n) (lent b []) (outcome (Done (y - x))) (lent b' [])
+        → x ≡ count F (free_in b) → y ≡ count F (free_in b') → (v : Values) → v ≡ record { first = y - x; second = 0 } → Called (Free F o n) (lent b []) (outcome (Ok v)) (lent b' [])
     unfolding row freed_words
-    free-done b' x y all w xe ye =
-        accepts (Free F o n) (lent b []) (y - x) (lent b' []) (none-on F b t _ (next (ap not i) (next (ap not all) done))) (rw (ye, xe, w)) refl (ap (λ (v : List ℕ). lent v []) w)
+    free-done b' x y all w xe ye v ve =
+        accepts (Free F o n) (lent b []) v (lent b' []) (none-on F b t _ (next (ap not i) (next (ap not all) done))) (ve ∙ rw (ye, xe, w)) refl (ap (λ (v : List ℕ). lent v []) w)
 
     -- no frame is held that was free
     pub free_more : (b' : List ℕ) → b' ≡ frame_words F (freed (owners_of b) o n) → count F (free_in b) ≤ count F (free_in b')

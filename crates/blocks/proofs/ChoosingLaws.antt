@@ -3,13 +3,16 @@ use mathlib.Core.Path.{◌≡◌, refl, ap, ◌∙◌, sym}
 use mathlib.Core.Bool.{Bool, true, false, not}
 use mathlib.Core.List.{List}
 use mathlib.Core.Option.{Option, none, some}
-use Prim.Native.Nat.{ℕ, ◌+◌, ◌^◌, ◌-◌, ◌<◌, ◌≤◌}
-use native.Mathlib.Decide.{dec_lt, dec_le, ℕ_discrete}
+use Rattle.std.specs.Prelude.{Some, None, IsSome, MatchOption}
+use Rattle.std.specs.Prelude as code
+use Prim.Native.Nat.{ℕ, ◌+◌, ◌^◌, ◌-◌, ◌<◌, ◌≤◌, min}
+use native.Mathlib.Decide.{dec_lt, ℕ_discrete}
 use native.Mathlib.Omega.{arith}
 use lib.Dec.{eqb}
 use lib.ListN.{get_or}
 use lib.Pow.{pow_mono}
 use borrow.Author.Tests.{eq-eqb, ne_eqb, eqb-true, not-true}
+use Rattle.words.specs.Counts.{count}
 use Rattle.words.proofs.Cases.{by-test, by-dec, true-false, and-true, and-false, none-some, not_there}
 use Rattle.blocks.specs.declared.Block.{Block}
 use Rattle.blocks.specs.declared.Bound.{Bound}
@@ -19,15 +22,15 @@ use Rattle.blocks.specs.FrameWords.{owners_of, free_in, lawful}
 use Rattle.blocks.specs.Choice.{order_for, take_block}
 use Rattle.blocks.specs.Inner.Around.{start_of, around, order_word}
 use Rattle.blocks.specs.Inner.Taking.{Clear, Searched}
-use Rattle.blocks.specs.Inner.Passes.{order_within, order_at, least, as_block, scan_from, PassedTo}
+use Rattle.blocks.specs.Inner.Passes.{order_within, order_at, scan_from, PassedTo}
 use Rattle.blocks.specs.Inner.Marks.{gone_at, starts_by, Stands, Finds, Wished, Chooses}
 use Rattle.blocks.proofs.AroundLaws.{in-block, block_in, start-same, start-next, start-in, around-at, at-around, around-same, smaller, order-here}
 use Rattle.blocks.proofs.FreeBlockLaws.{whole-at, at-whole, in-block-at, free-block-at}
 use Rattle.blocks.proofs.WordLaws.{free-zero, start_word, other_word, free-frame, Lawful, lawful-is, word-block, block-word}
 use Rattle.blocks.proofs.ChoiceLaws.{Taking, one, end, taking, took-free}
-use Rattle.blocks.proofs.SearchedLaws.{within, least-is, above-top, order-low, None, none-zero, scan-start, passed, skipped, chosen, chosen_none, as_some}
+use Rattle.blocks.proofs.SearchedLaws.{within, above-top, order-low, NoneTried, none-zero, scan-start, passed, skipped, chosen, chosen_none}
 use Rattle.blocks.proofs.WishLaws.{wish-met, wish-not-met, old-order, order-whole}
-use Rattle.blocks.proofs.AllocateLaws.{took}
+use Rattle.blocks.proofs.AllocateLaws.{took, is_there}
 
 -- a free block by the words lent and the marks
 
@@ -74,72 +77,65 @@ free-high F b l f h t =
 
 module _ (b m : List ℕ) (wish k : ℕ) where
   -- no free block of an order from k up to top, top left out, holds the wish
-  pub NoneAround : ℕ → Type 0
+  abbrev pub NoneAround : ℕ → Type 0
   NoneAround top = (j : ℕ) → k ≤ j → j < top → starts_by b m j (start_of j wish) ≡ false
 
-  pub around-none : NoneAround k
-  unfolding NoneAround
-  around-none j lo hi = absurd (omega arith)
-
-  pub around-more : (top : ℕ) → NoneAround top → starts_by b m top (start_of top wish) ≡ false → NoneAround (top + 1)
-  unfolding NoneAround
-  around-more top n f j lo hi = by-dec (ℕ_discrete j top) (λ e. rw e f) (λ ne. n j lo (omega arith))
-
--- the test of the free block of order top around the wish, as code has it
-pub starts-at : (b m : List ℕ) (wish top s : ℕ) (r t : Bool) → s ≡ start_of top wish → r ≡ starts_by b m top s → r ≡ t → starts_by b m top (start_of top wish) ≡ t
-starts-at b m wish top s r t se re rt = ap (starts_by b m top) (sym se) ∙ sym re ∙ rt
-
 module _ (F : ℕ) (b m : List ℕ) (wish k : ℕ) where
-  pub wish-in : (top : ℕ) → wish < F → start_of k wish ≡ wish → k ≤ top → top ≤ 10 → starts_by b m top (start_of top wish) ≡ true → Wished F b m wish k top
+  pub wish-in : (top : ℕ) → wish < F → start_of k wish ≡ wish → k ≤ top → top ≤ 10 → starts_by b m top (start_of top wish) ≡ true → Wished F b m wish k (Some top)
   wish-in top h st kt ht t = record {
-    met = λ w stands low.
+    met = λ w stands.
         let start = (in-block top wish wish refl).0 in
         let inside : start_of top wish < F = omega arith in
         let first = by_first F b m w stands top (start_of top wish) ht inside t in
         let at = word-block F w (lawful-is F w stands.lawful) top (start_of top wish) inside first in
         let whole = around-same F (free_in w) top (start_of top wish) wish (sym (start-in top wish)) at.maximal.whole in
         (at-whole F (free_in w) k wish (omega arith) st (smaller F (free_in w) k top wish kt whole), kt, inside, first);
-    not-met = λ w stands high. absurd (omega arith);
+    not-met = λ w stands. tt;
   }
 
   -- a wish that is met in no words which the marks stand for
-  unmet : (r : ℕ) → 10 < r → ((w : List ℕ) → Stands F b m w → wholly_free F (free_in w) k wish ≡ true → ⊥) → Wished F b m wish k r
-  unmet r hr n = record {
-    met = λ w stands low. absurd (omega arith);
-    not-met = λ w stands high. by-test (wholly_free F (free_in w) k wish) (λ t. absurd (n w stands t)) (λ t. t);
+  unmet : ((w : List ℕ) → Stands F b m w → wholly_free F (free_in w) k wish ≡ true → ⊥) → Wished F b m wish k None
+  unmet n = record {
+    met = λ w stands. tt;
+    not-met = λ w stands. by-test (wholly_free F (free_in w) k wish) (λ t. absurd (n w stands t)) (λ t. t);
   }
 
   whole-free : (w : List ℕ) → wholly_free F (free_in w) k wish ≡ true → (wish < F) × (free_in w wish ≡ true)
   whole-free w t = around-at F (free_in w) k wish (whole-at F (free_in w) k wish t).2 wish refl
 
-  pub wish-past : F ≤ wish → Wished F b m wish k 11
-  wish-past h = unmet 11 (omega arith) (λ w stands t. omega (arith, (whole-free w t).0))
+  pub wish-past : F ≤ wish → Wished F b m wish k None
+  wish-past h = unmet (λ w stands t. omega (arith, (whole-free w t).0))
 
-  pub wish-held : lawful F b ≡ true → get_or b wish 0 ≤ 4096 → Wished F b m wish k 11
-  wish-held lw h = unmet 11 (omega arith) (λ w stands t.
+  pub wish-held : lawful F b ≡ true → get_or b wish 0 ≤ 4096 → Wished F b m wish k None
+  wish-held lw h = unmet (λ w stands t.
       let q = whole-free w t in
       omega (arith, free-high F b (lawful-is F b lw) wish q.0 (stands.free wish q.0 q.1)))
 
   -- a smaller free block starts there, and no frame of it is in a larger one
-  pub wish-small : lawful F b ≡ true → 16384 ≤ get_or b wish 0 → get_or b wish 0 < 16384 + k → Wished F b m wish k 11
-  wish-small lw lo hi = unmet 11 (omega arith) (λ w stands t.
+  pub wish-small : lawful F b ≡ true → 16384 ≤ get_or b wish 0 → get_or b wish 0 < 16384 + k → Wished F b m wish k None
+  wish-small lw lo hi = unmet (λ w stands t.
       let q = whole-at F (free_in w) k wish t in
       let lent = at-around F (free_in b) k wish (λ g e. let r = around-at F (free_in w) k wish q.2 g e in (r.0, stands.free g r.0 r.1)) in
       let j : ℕ = get_or b wish 0 - 16384 in
       let at = word-block F b (lawful-is F b lw) j wish (whole-free w t).0 (omega arith) in
       true-false (around F (free_in b) wish k) lent (at.maximal.alone k (omega arith) q.0))
 
-  pub wish-off : (start_of k wish ≡ wish → ⊥) → Wished F b m wish k 11
-  wish-off n = unmet 11 (omega arith) (λ w stands t. n (whole-at F (free_in w) k wish t).1)
+  pub wish-off : (start_of k wish ≡ wish → ⊥) → Wished F b m wish k None
+  wish-off n = unmet (λ w stands t. n (whole-at F (free_in w) k wish t).1)
 
-  pub wish-out : (top : ℕ) → 10 < top → NoneAround b m wish k top → Wished F b m wish k top
-  unfolding NoneAround
-  wish-out top ht n = unmet top ht (λ w stands t.
+  pub wish-out : NoneAround b m wish k 11 → Wished F b m wish k None
+  wish-out n = unmet (λ w stands t.
       let q = whole-at F (free_in w) k wish t in
       let j = in-block-at F (free_in w) k wish q.0 q.2 in
       let at = j.3 in
       let first = block-word F w (lawful-is F w stands.lawful) j.0 (start_of j.0 wish) at.inside at in
       true-false (starts_by b m j.0 (start_of j.0 wish)) (first_by F b m w stands j.0 (start_of j.0 wish) j.2 at.inside first) (n j.0 j.1 (omega (arith, j.2))))
+
+  -- the first order from k on of which a free block holds the wish
+  pub wish-first : wish < F → start_of k wish ≡ wish → (r : code.Option ℕ)
+      → MatchOption r (NoneAround b m wish k 11) (λ top. (k ≤ top) × (top < 11) × (starts_by b m top (start_of top wish) ≡ true) × NoneAround b m wish k top) → Wished F b m wish k r
+  wish-first h st None n = wish-out n
+  wish-first h st (Some top) q = wish-in top h st q.0 (omega (arith, q.1)) q.2
 
 -- the old choice
 
@@ -153,7 +149,7 @@ Scanned F k f w = Clear F (free_in w) k f × (start_of k f ≡ f)
 
 module _ (F : ℕ) (b m : List ℕ) (x : Bound) where
   -- no order is tried before the first
-  pub none_tried : (limit top : ℕ) → Whatever F b m x (λ w. None F (free_in w) limit top 0)
+  pub none_tried : (limit top : ℕ) → Whatever F b m x (λ w. NoneTried F (free_in w) limit top 0)
   unfolding Whatever
   none_tried limit top w st known = none-zero F (free_in w) limit top
 
@@ -204,33 +200,32 @@ scan-passes F b m x k f r hk p sc w st known = (record { none-at = λ s h. by-de
 abbrev pub IsCut : Cut → ℕ → ℕ → ℕ → Type 0
 IsCut r order s top = (r.block ≡ block order s) × (r.top ≡ top)
 
-module _ (F : ℕ) (b m : List ℕ) (x : Bound) (top t : ℕ) (n : Whatever F b m x (λ w. None F (free_in w) x.limit top t)) where
-  pub order-skipped : (k f : ℕ) → k ≡ order_at x.limit top t → Whatever F b m x (Scanned F k f) → F ≤ f → Whatever F b m x (λ w. None F (free_in w) x.limit top (t + 1))
+module _ (F : ℕ) (b m : List ℕ) (x : Bound) (top t : ℕ) (n : Whatever F b m x (λ w. NoneTried F (free_in w) x.limit top t)) where
+  pub order-skipped : (k f : ℕ) → k ≡ order_at x.limit top t → Whatever F b m x (Scanned F k f) → F ≤ f → Whatever F b m x (λ w. NoneTried F (free_in w) x.limit top (t + 1))
   unfolding Whatever
   order-skipped k f ke sc h w st known = skipped F (free_in w) x.limit top t k f ke (n w st known) (sc w st known).0 h
 
   module _ (r : Cut) where
     -- the lowest free block of the order that is tried
-    pub word-chosen : (k order f : ℕ) → t < x.limit + 1 → k ≤ 10 → k ≡ order_at x.limit top t → order ≡ least k top → Whatever F b m x (Scanned F k f) → f < F → starts_by b m k f ≡ true
-        → IsCut r order f k → Finds F b m top x r
+    pub word-chosen : (k order f : ℕ) → t < x.limit + 1 → k ≤ 10 → k ≡ order_at x.limit top t → order ≡ min k top → Whatever F b m x (Scanned F k f) → f < F → starts_by b m k f ≡ true
+        → IsCut r order f k → Finds F b m top x (Some r)
     unfolding Whatever
     word-chosen k order f ht hk ke oe sc h t' re = record {
       block = λ w left L st known o te.
           let first = by_first F b m w st k f hk h t' in
-          re.0 ∙ chosen F w st.lawful left x L top t o te known k f order ht ke (n w st known) (sc w st known).0 h first oe;
-      first = λ w st known low.
+          chosen F w st.lawful left x L top t o te known k f order ht ke (n w st known) (sc w st known).0 h first oe ∙ ap some (sym re.0);
+      first = λ w st known.
           let rb = re.0 in
           let rt = re.1 in
-          let q = least-is k top order oe in
-          rw (rb, rt) (q.0, h, by_first F b m w st k f hk h t');
+          rw (rb, rt) (omega (arith, oe), h, by_first F b m w st k f hk h t');
     }
 
-    pub none-chosen : t ≡ x.limit + 1 → IsCut r 11 0 0 → Finds F b m top x r
-    unfolding Whatever
-    none-chosen e re = record {
-      block = λ w left L st known o te. re.0 ∙ chosen_none F w st.lawful left x L top t o te known (n w st known) e;
-      first = λ w st known low. let rb : r.block.order ≡ 11 = ap (λ (y : Block). y.order) re.0 in absurd (omega arith);
-    }
+  pub none-chosen : t ≡ x.limit + 1 → Finds F b m top x None
+  unfolding Whatever
+  none-chosen e = record {
+    block = λ w left L st known o te. chosen_none F w st.lawful left x L top t o te known (n w st known) e;
+    first = λ w st known. tt;
+  }
 
 -- the choice
 
@@ -245,70 +240,64 @@ none-either F free wish left pos e =
     go o oe (one b t) f h t' = none-some b o oe refl
     go o oe (end n) f h t' = n f h t' pos
 
--- a block that is none has order 11
-is_block_lem : (o : Option Block) (x : Block) → x ≡ as_block o → x.order ≤ 10 → o ≡ some x
-unfolding as_block
-is_block_lem none x e h = let z : x.order ≡ 11 = ap (λ (y : Block). y.order) e in absurd (omega arith)
-is_block_lem (some y) x e h = ap some (sym e)
-
 module _ (F : ℕ) (b m : List ℕ) (wish left : ℕ) (x : Bound) where
   -- the wish is met at the order that is chosen
-  wish-chosen : (i high : ℕ) (r : Cut) → Whatever F b m x (λ w. order_for F (free_in w) left ≡ some i) → Wished F b m wish i high → high < 11 → IsCut r i wish high → Chooses F b m wish left x r
+  wish-chosen : (i high : ℕ) (r : Cut) → Whatever F b m x (λ w. order_for F (free_in w) left ≡ some i) → Wished F b m wish i (Some high) → IsCut r i wish high → Chooses F b m wish left x (Some r)
   unfolding Whatever
-  wish-chosen i high r ok wd h re = record {
-    block = λ w st known. re.0 ∙ as_some _ _ (wish-met F (free_in w) wish left i (ok w st known) (wd.met w st (omega arith)).0);
-    first = λ w st known low. let rb = re.0 in let rt = re.1 in let q = wd.met w st (omega arith) in rw (rb, rt) (q.1, q.2, q.3);
+  wish-chosen i high r ok wd re = record {
+    block = λ w st known. wish-met F (free_in w) wish left i (ok w st known) (wd.met w st).0 ∙ ap some (sym re.0);
+    first = λ w st known. let rb = re.0 in let rt = re.1 in let q = wd.met w st in rw (rb, rt) (q.1, q.2, q.3);
   }
 
-module _ (F : ℕ) (b m : List ℕ) (wish left : ℕ) (x : Bound) (L top : ℕ) (o : order_within left ≡ some L) (te : top ≡ least L x.limit) where
+module _ (F : ℕ) (b m : List ℕ) (wish left : ℕ) (x : Bound) (L top : ℕ) (o : order_within left ≡ some L) (te : top ≡ min L x.limit) where
   -- the wish is met at the largest order that can be chosen
-  pub top-chosen : (high : ℕ) (r : Cut) → Wished F b m wish top high → high < 11 → IsCut r top wish high → Chooses F b m wish left x r
+  pub top-chosen : (high : ℕ) (r : Cut) → Wished F b m wish top (Some high) → IsCut r top wish high → Chooses F b m wish left x (Some r)
   unfolding Whatever
-  top-chosen high r wd h re =
+  top-chosen high r wd re =
       wish-chosen F b m wish left x top high r (λ w st known.
-      let size : 2 ^ top ≤ 2 ^ L = pow_mono (least-is L x.limit top te).0 in
+      let size : 2 ^ top ≤ 2 ^ L = pow_mono (omega arith) in
       let fits : 2 ^ top ≤ left = omega (arith, (within left L o).fits) in
-      order-whole F (free_in w) left top wish fits (wd.met w st (omega arith)).0 (above-top F (free_in w) left x L top o te known)) wd h re
+      order-whole F (free_in w) left top wish fits (wd.met w st).0 (above-top F (free_in w) left x L top o te known)) wd re
 
-  module _ (old : Cut) (fd : Finds F b m top x old) where
-    old-is : (w : List ℕ) → Stands F b m w → Searched F (free_in w) x → old.block.order ≤ 10 → take_block F (free_in w) none left ≡ some old.block
-    old-is w st known low = is_block_lem _ _ (fd.block w left L st known o te) low
+  -- the old choice is none, so no block is taken
+  pub old-none : 1 ≤ left → Finds F b m top x None → Chooses F b m wish left x None
+  old-none pos fd = record {
+    block = λ w st known. none-either F (free_in w) (some wish) left pos (fd.block w left L st known o te);
+    first = λ w st known. tt;
+  }
+
+  module _ (old : Cut) (fd : Finds F b m top x (Some old)) where
+    old-is : (w : List ℕ) → Stands F b m w → Searched F (free_in w) x → take_block F (free_in w) none left ≡ some old.block
+    old-is w st known = fd.block w left L st known o te
 
     -- it is met at the order of the old choice
-    pub low-chosen : (low : ℕ) (r : Cut) → Wished F b m wish old.block.order low → low < 11 → IsCut r old.block.order wish low → Chooses F b m wish left x r
+    pub low-chosen : (low : ℕ) (r : Cut) → Wished F b m wish old.block.order (Some low) → IsCut r old.block.order wish low → Chooses F b m wish left x (Some r)
     unfolding Whatever
-    low-chosen low r wd h re =
-        wish-chosen F b m wish left x old.block.order low r (λ w st known.
-        old-order F (free_in w) left old.block (old-is w st known (omega (arith, (wd.met w st (omega arith)).1)))) wd h re
+    low-chosen low r wd re = wish-chosen F b m wish left x old.block.order low r (λ w st known. old-order F (free_in w) left old.block (old-is w st known)) wd re
 
-    module _ (pos : 1 ≤ left) where
-      -- it is not met at that order
-      old-chosen : Whatever F b m x (λ w. old.block.order ≤ 10 → wholly_free F (free_in w) old.block.order wish ≡ false) → Chooses F b m wish left x old
-      unfolding Whatever
-      old-chosen n = record {
-        block = λ w st known. fd.block w left L st known o te ∙ ap as_block (sym (by-dec (dec_le old.block.order 10)
-            (λ low. wish-not-met F (free_in w) wish left old.block.order (old-order F (free_in w) left old.block (old-is w st known low)) (n w st known low))
-            (λ high. let e = none-there w st known (omega arith) in none-either F (free_in w) (some wish) left pos e ∙ sym e)));
-        first = λ w st known low.
-            let q = fd.first w st known low in
-            let starts = (word-block F w (lawful-is F w st.lawful) old.top old.block.start.0 q.1 q.2).aligned in
-            (q.0, rw starts q.1, rw starts q.2);
-      }
-        where
-          none-there : (w : List ℕ) → Stands F b m w → Searched F (free_in w) x → 10 < old.block.order → take_block F (free_in w) none left ≡ none
-          none-there w st known high = not_there _ (λ y e.
-              let same : old.block ≡ y = fd.block w left L st known o te ∙ sym (as_some _ _ e) in
-              let t = took F (free_in w) none left y e in
-              let e' = ap (λ (z : Block). z.order) same in
-              omega (arith, t.below, t.from.maximal.small))
+    -- it is not met at that order
+    old-chosen : Whatever F b m x (λ w. wholly_free F (free_in w) old.block.order wish ≡ false) → Chooses F b m wish left x (Some old)
+    unfolding Whatever
+    old-chosen n = record {
+      block = λ w st known. wish-not-met F (free_in w) wish left old.block.order (old-order F (free_in w) left old.block (old-is w st known)) (n w st known) ∙ old-is w st known;
+      first = λ w st known.
+          let q = fd.first w st known in
+          let starts = (word-block F w (lawful-is F w st.lawful) old.top old.block.start.0 q.1 q.2).aligned in
+          (q.0, rw starts q.1, rw starts q.2);
+    }
 
-      pub old-low : (low : ℕ) → Wished F b m wish old.block.order low → 11 ≤ low → Chooses F b m wish left x old
-      unfolding Whatever
-      old-low low wd h = old-chosen (λ w st known le. wd.not-met w st (omega arith))
+    pub old-low : Wished F b m wish old.block.order None → Chooses F b m wish left x (Some old)
+    unfolding Whatever
+    old-low wd = old-chosen (λ w st known. wd.not-met w st)
 
-      pub old-top : (high : ℕ) → Wished F b m wish top high → 11 ≤ high → top ≤ old.block.order → Chooses F b m wish left x old
-      unfolding Whatever
-      old-top high wd h ge = old-chosen (λ w st known le.
-          let up = order-low F (free_in w) left x L top o te known old.block.order (old-order F (free_in w) left old.block (old-is w st known le)) in
-          let same : old.block.order ≡ top = omega arith in
-          rw same (wd.not-met w st (omega arith)))
+    pub old-top : Wished F b m wish top None → top ≤ old.block.order → Chooses F b m wish left x (Some old)
+    unfolding Whatever
+    old-top wd ge = old-chosen (λ w st known.
+        let up = order-low F (free_in w) left x L top o te known old.block.order (old-order F (free_in w) left old.block (old-is w st known)) in
+        let same : old.block.order ≡ top = omega arith in
+        rw same (wd.not-met w st))
+
+-- while a page is left and enough frames are free there is a block to take
+pub some-cut : (F : ℕ) (b m : List ℕ) (wish left : ℕ) (x : Bound) (r : code.Option Cut) → Chooses F b m wish left x r → (w : List ℕ) → Stands F b m w → Searched F (free_in w) x → 1 ≤ left → left ≤ count F (free_in w) → IsSome r
+some-cut F b m wish left x None ch w st known pos enough = absurd (is_there F (free_in w) wish left pos enough (ch.block w st known))
+some-cut F b m wish left x (Some c) ch w st known pos enough = refl

@@ -1,21 +1,23 @@
--- Counting free frames, freeing, and that freeing undoes an allocation.
+-- Freeing, and that freeing undoes an allocation.
 use mathlib.Core.Path.{◌≡◌, refl, ap, ◌∙◌, sym}
-use mathlib.Core.Bool.{Bool, true, false}
+use mathlib.Core.Bool.{Bool, true, false, not}
 use mathlib.Core.Option.{Option}
-use mathlib.Core.List.{List, [], ◌∷◌}
+use mathlib.Core.List.{List, [], ◌∷◌, ◌++◌}
 use Prim.Native.Nat.{ℕ, zero, suc, ◌+◌, ◌-◌, ◌<◌, ◌≤◌, zero-le}
 use native.Mathlib.Nat.{not-suc-le-zero, add-zero, zero-add}
 use native.Mathlib.Decide.{dec_lt, dec_le, ℕ_discrete}
 use native.Mathlib.Omega.{arith}
 use lib.Dec.{eqb, ltb}
-use lib.ListN.{length, get_or, set}
+use lib.ListN.{length, get_or, set, take, drop}
+use Rattle.std.proofs.lemmas.List.{get_or-take, get_or-drop, get_or_append_left}
+use Rattle.std.proofs.Math.Seq.{get_or-append_right}
 use lib.Seq.{get_or-set_same, get_or-set_other}
-use borrow.Author.Tests.{leb-true, ltb-true, eqb-true, eq-eqb, ne_eqb, le-leb, lt-ltb, le-ltb}
+use borrow.Author.Tests.{leb-true, ltb-true, eqb-true, eq-eqb, ne_eqb, le-leb, lt-ltb, le-ltb, not-true, not-false}
 use Rattle.words.specs.Counts.{count, one-if}
 use Rattle.words.specs.Searches.{any_from, all_from}
 use Rattle.words.proofs.Cases.{by-test, by-dec, true-false, and-true, true-and}
 use Rattle.words.proofs.SearchLaws.{at-any, any_none, any-more, all_from_at, at-all_from, some-fails}
-use Rattle.words.specs.Inner.{same_in}
+use Rattle.words.specs.Inner.{same_in, PassTo}
 use Rattle.blocks.specs.FrameWords.{owner_of, owners_of, free_in, frame_words}
 use Rattle.blocks.specs.Choice.{frames_for, blocks_for}
 use Rattle.blocks.specs.Owners.{put, give, in_span, cleared, freed, holds}
@@ -23,16 +25,6 @@ use Rattle.blocks.specs.Inner.Passes.{ClearedTo, MarkedOne, MarkedTo}
 use Rattle.blocks.proofs.WordLaws.{owner-low, owner-high, owners-small, free-zero, Lawful, lawful-table, owners-high, owners-again, words-ext}
 use Rattle.blocks.proofs.ChoiceLaws.{Good, takes-good, takes_all}
 use Rattle.blocks.proofs.AllocateLaws.{put_same, put_other}
-
--- counting free frames
-
-pub one_free : (w o : ℕ) → o ≡ owner_of w → o ≡ 0 → 1 ≡ one-if (eqb (owner_of w) 0)
-unfolding one-if
-one_free w o e z = rw (eq-eqb _ _ (sym e ∙ z))
-
-pub one-held : (w o : ℕ) → o ≡ owner_of w → (o ≡ 0 → ⊥) → 0 ≡ one-if (eqb (owner_of w) 0)
-unfolding one-if
-one-held w o e n = rw (ne_eqb _ _ (λ z. n (e ∙ z)))
 
 -- the span of owners
 
@@ -98,6 +90,16 @@ unfolding freed
 freed-zero owner o n g pos z = ap (cleared o n) z ∙ sym (clear-out o n 0 (λ lo hi. omega arith))
 
 -- the pass that clears
+
+-- the first n words are changed, and the others stand behind them as before
+pub cleared-front : (b : List ℕ) (o n m k : ℕ) (xs : List ℕ) → m ≤ length b → length xs ≡ m → k ≡ m → ClearedTo (take m b) o n k xs → ClearedTo b o n m (xs ++ drop m b)
+cleared-front b o n m k xs h len all c = record {
+  inside = λ g lo hi. get_or_append_left xs (drop m b) 0 g (omega arith) ∙ c.inside g lo (omega arith) ∙ ap (cleared o n) (get_or-take m b g 0 hi);
+  below = λ g lt. absurd (omega arith);
+  above = λ g le.
+      let e : m + (g - length xs) ≡ g = omega arith in
+      get_or-append_right xs (drop m b) g 0 (omega arith) ∙ get_or-drop m b (g - length xs) 0 ∙ ap (λ (i : ℕ). get_or b i 0) e;
+}
 
 pub released : (F : ℕ) (b : List ℕ) (o n : ℕ) (b1 b2 : List ℕ) → 1 ≤ o → o + n ≤ 4097 → ClearedTo b o n F b1 → b2 ≡ frame_words F (owners_of b1)
     → b2 ≡ frame_words F (freed (owners_of b) o n)
@@ -204,38 +206,32 @@ module _ (F : ℕ) (b : List ℕ) (l : Lawful F b) (o : ℕ) (wish : Option ℕ)
 
 -- whether owners of a span hold frames
 
--- no owner of the span stands below place m
-pub NoneIn : List ℕ → ℕ → ℕ → ℕ → Type 0
-NoneIn b o n m = (g : ℕ) → g < m → in_span o n (owners_of b g) ≡ false
-
 module _ (b : List ℕ) (o n : ℕ) where
-  pub none-zero : NoneIn b o n 0
-  unfolding NoneIn
-  none-zero g h = absurd (omega arith)
-
-  pub none_more : (m : ℕ) → NoneIn b o n m → in_span o n (owners_of b m) ≡ false → NoneIn b o n (m + 1)
-  unfolding NoneIn
-  none_more m c e g h = by-dec (ℕ_discrete g m) (λ x. rw x e) (λ ne. c g (omega arith))
-
-  pub none-held : (F : ℕ) → NoneIn b o n F → false ≡ any_from n o (holds F (owners_of b))
-  unfolding NoneIn holds
+  none-held : (F : ℕ) → ((g : ℕ) → g < F → in_span o n (owners_of b g) ≡ false) → false ≡ any_from n o (holds F (owners_of b))
+  unfolding holds
   none-held F c = sym (any_none n o (holds F (owners_of b)) (λ p lo hi. any_none F 0 (λ g. eqb (owners_of b g) p) (λ g glo ghi. ne_eqb (owners_of b g) p (λ e.
       true-false {P = ⊥} (in_span o n (owners_of b g)) (in-span o n (owners_of b g) (omega arith) (omega arith)) (c g (omega arith))))))
 
-  pub one-held-by : (F g : ℕ) → g < F → in_span o n (owners_of b g) ≡ true → true ≡ any_from n o (holds F (owners_of b))
+  one-held-by : (F g : ℕ) → g < F → in_span o n (owners_of b g) ≡ true → true ≡ any_from n o (holds F (owners_of b))
   unfolding holds
   one-held-by F g h t =
       let q = span-in o n (owners_of b g) t in
       sym (at-any n o (holds F (owners_of b)) (owners_of b g) q.0 q.1 (at-any F 0 (λ x. eqb (owners_of b x) (owners_of b g)) g zero-le (omega arith) (eq-eqb (owners_of b g) (owners_of b g) refl)))
 
+  -- as a scan finds it: 1 is the bit of a frame that one of the owners holds
+  pub span_test : (g r : ℕ) → r ≡ one-if (in_span o n (owner_of (get_or b g 0))) → eqb r 0 ≡ not (in_span o n (owners_of b g))
+  unfolding one-if owners_of
+  span_test g r e = by-test (in_span o n (owner_of (get_or b g 0))) (λ t. rw (e, t, one-if) refl) (λ f. rw (e, f, one-if) refl)
+
+  pub any-scanned : (F k : ℕ) → PassTo (λ g. not (in_span o n (owners_of b g))) 0 F k → ((k ≡ F → ⊥) → not (in_span o n (owners_of b k)) ≡ false) → not (eqb k F) ≡ any_from n o (holds F (owners_of b))
+  any-scanned F k x stop =
+      by-dec (ℕ_discrete k F)
+      (λ q. ap not (eq-eqb k F q) ∙ none-held F (λ g lt. not-true _ (x.pass g zero-le (omega (arith, lt, q)))))
+      (λ ne. ap not (ne_eqb k F ne) ∙ one-held-by F k (omega (arith, x.to, ne)) (not-false _ (stop ne)))
+
   -- where no owner of the span holds a frame, none stands in the buffer below F
   pub nobody-holds : (F : ℕ) → any_from n o (holds F (owners_of b)) ≡ false → (g : ℕ) → g < F → o ≤ owners_of b g → owners_of b g < o + n → ⊥
   nobody-holds F e g h lo hi = true-false {P = ⊥} (any_from n o (holds F (owners_of b))) (sym (one-held-by F g h (in-span o n (owners_of b g) lo hi))) e
-
--- the test of one place, as the code makes it
-pub span-read : (b : List ℕ) (o n g w : ℕ) {r s : Bool} → w ≡ owner_of (get_or b g 0) → r ≡ in_span o n w → r ≡ s → in_span o n (owners_of b g) ≡ s
-unfolding owners_of
-span-read b o n g w we re rs = ap (in_span o n) (sym we) ∙ sym re ∙ rs
 
 -- marks of the owners that hold frames
 

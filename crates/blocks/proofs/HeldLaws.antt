@@ -1,54 +1,35 @@
 -- Held frames, passed over a stretch at a time and counted.
-use mathlib.Core.Path.{◌≡◌, refl}
-use mathlib.Core.Bool.{Bool, true, false}
+use mathlib.Core.Path.{◌≡◌, refl, ap}
+use mathlib.Core.Bool.{true, false, not}
 use mathlib.Core.List.{List}
-use Prim.Native.Nat.{ℕ, ◌+◌, ◌-◌, ◌<◌, ◌≤◌}
-use native.Mathlib.Decide.{dec_lt}
+use Prim.Native.Nat.{ℕ, ◌+◌, ◌-◌, ◌≤◌}
 use native.Mathlib.Omega.{arith}
+use lib.Dec.{eqb}
 use lib.ListN.{get_or}
 use borrow.Author.Tests.{not-true}
 use Rattle.words.specs.Counts.{count, one-if}
 use Rattle.words.specs.Inner.{PassTo}
-use Rattle.words.proofs.Cases.{by-test, by-dec, true-false}
-use Rattle.words.proofs.CountLaws.{one-if-not, count-split, none_pass, all_pass}
-use Rattle.blocks.specs.FrameWords.{is_owner, free_in, owned_in}
-use Rattle.blocks.specs.Inner.Passes.{sought, Checked, HeldTo}
+use Rattle.words.proofs.Cases.{by-test, true-false}
+use Rattle.words.proofs.CountLaws.{count-split, none_pass, all_pass}
+use Rattle.blocks.specs.FrameWords.{is_owner, owner_of, owners_of, free_of, free_in, owned_in}
+use Rattle.blocks.specs.Inner.Passes.{Checked, HeldTo}
 use Rattle.blocks.proofs.WordLaws.{owner-false, is_free}
 
--- what is sought, counted
+-- the bits by which a scan tells held frames from free ones: of a held frame its owner, of a free one a 1
 
-module _ (held free : Bool) (r : ℕ) where
-  pub sought-held : held ≡ true → r ≡ one-if free → 1 - r ≡ one-if (sought held free)
-  unfolding sought
-  sought-held e q = rw e (omega (arith, q, one-if-not free))
+pub free_test : (b : List ℕ) (g r : ℕ) → r ≡ owner_of (get_or b g 0) → eqb r 0 ≡ free_in b g
+unfolding free_in free_of owners_of
+free_test b g r e = ap (λ (x : ℕ). eqb x 0) e
 
-  pub sought-free : held ≡ false → r ≡ one-if free → r ≡ one-if (sought held free)
-  unfolding sought
-  sought-free e q = rw e q
+pub held_test : (b : List ℕ) (g r : ℕ) → r ≡ one-if (eqb (owner_of (get_or b g 0)) 0) → eqb r 0 ≡ not (free_in b g)
+unfolding one-if free_in free_of owners_of
+held_test b g r e = by-test (eqb (owner_of (get_or b g 0)) 0) (λ t. rw (e, t, one-if) refl) (λ f. rw (e, f, one-if) refl)
 
 -- a stretch
 
 module _ (b : List ℕ) (s e : ℕ) where
-  pub held_none : s ≤ e → HeldTo b s e s
-  held_none h = record { from = omega arith; to = h; held = λ g lo hi. absurd (omega arith) }
-
-  pub held_one : s < e → free_in b s ≡ false → HeldTo b s e (s + 1)
-  held_one h f = record { from = omega arith; to = omega arith; held = λ g lo hi. let q : g ≡ s = omega arith in rw q f }
-
-  pub held-pass : (r : ℕ) → PassTo (λ g. sought true (free_in b g)) s e r → HeldTo b s e r
-  unfolding sought
+  pub held-pass : (r : ℕ) → PassTo (λ g. not (free_in b g)) s e r → HeldTo b s e r
   held-pass r x = record { from = x.from; to = x.to; held = λ g lo hi. not-true _ (x.pass g lo hi) }
-
-  -- the frames up to a nearer end
-  pub held-near : (d r : ℕ) → d ≤ e → HeldTo b s d r → HeldTo b s e r
-  held-near d r h x = record { from = x.from; to = omega (arith, x.to); held = x.held }
-
-  pub held_more : (g r : ℕ) → HeldTo b s e g → HeldTo b g e r → HeldTo b s e r
-  held_more g r x y = record {
-    from = omega (arith, x.from, y.from);
-    to = y.to;
-    held = λ k lo hi. by-dec (dec_lt k g) (λ lt. x.held k lo lt) (λ ge. y.held k (omega arith) hi);
-  }
 
 -- the count
 
@@ -68,7 +49,8 @@ count_held b s e r n q w =
     let all : count (r - s) (λ i. owned_in b (s + i)) ≡ r - s = all_pass (r - s) _ (λ i h. held_word b (s + i) (w.held (s + i) (omega arith) (omega arith))) in
     omega (arith, count-on b s r w.from, all, q)
 
-pub count-block : (F : ℕ) (b : List ℕ) (f r n : ℕ) → f < r → Checked F b f r → n ≡ count f (owned_in b) → n ≡ count r (owned_in b)
-count-block F b f r n on x q =
+pub count-block : (F : ℕ) (b : List ℕ) (f r n : ℕ) → Checked F b f r → n ≡ count f (owned_in b) → n ≡ count r (owned_in b)
+count-block F b f r n x q =
+    let on = x.settled.on in
     let none : count (r - f) (λ i. owned_in b (f + i)) ≡ 0 = none_pass (r - f) _ (λ i h. x.free (f + i) (omega arith) (omega arith)) in
     omega (arith, count-on b f r (omega arith), none, q)

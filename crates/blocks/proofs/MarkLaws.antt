@@ -3,6 +3,7 @@ use mathlib.Core.Path.{◌≡◌, refl, ap, ◌∙◌, sym, subst}
 use mathlib.Core.Bool.{Bool, true, false, ◌&&◌, ◌||◌, not}
 use mathlib.Core.List.{List}
 use mathlib.Core.Option.{some}
+use Rattle.std.specs.Prelude.{Some}
 use Prim.Native.Nat.{ℕ, ◌+◌, ◌/◌, ◌%◌, ◌^◌, ◌-◌, ◌<◌, ◌≤◌}
 use native.Mathlib.Decide.{dec_lt, dec_le, ℕ_discrete}
 use native.Mathlib.Omega.{arith}
@@ -12,7 +13,6 @@ use lib.Seq.{get_or-set_same, get_or-set_other}
 use lib.Pow.{pow_pos, pow_mono}
 use borrow.Author.Tests.{eq-eqb, ne_eqb}
 use Rattle.words.specs.Bits.{has_bit}
-use Rattle.words.specs.Counts.{count}
 use Rattle.words.proofs.Cases.{by-test, by-dec, true-false, none-some, or-false, or-none}
 use Rattle.words.proofs.TableLaws.{all-default, get_d_tabulate}
 use Rattle.words.proofs.PowerLaws.{double, pow-less}
@@ -35,7 +35,7 @@ use Rattle.blocks.proofs.ChoiceLaws.{lowest-at, at-lowest}
 use Rattle.blocks.proofs.SearchedLaws.{NoneAbove, within, too_large, cut-from, none-larger, stays}
 use Rattle.blocks.proofs.WishLaws.{Taken, at-wish, as-old, taken_is, taken-order, wish-met, order-whole}
 use Rattle.blocks.proofs.TakeLaws.{old-word, kept_word, word-half}
-use Rattle.blocks.proofs.AllocateLaws.{chosen_is, chosen-small, chosen-inside, chosen-part, Rest, block-taken, chosen-same, block-searched, rest_of}
+use Rattle.blocks.proofs.AllocateLaws.{chosen-small, chosen-inside, chosen-part, Rest, block-taken, chosen-same, block-searched, rest_of}
 use Rattle.blocks.proofs.ChoosingLaws.{starts-gone, starts-left, first_by}
 
 -- marks that are all 0 stand for the words lent
@@ -90,9 +90,6 @@ module _ (m : List ℕ) (s z : ℕ) (clear : gone_at m s ≡ false) (ze : z ≡ 
     where
       v : ℕ
       v = get_or m (1 + s / 32) 0 + z
-
-pub ahead-set : (m : List ℕ) → length m ≡ 129 → ahead_of (set m 0 1) ≡ 0 → ⊥
-ahead-set m len z = omega (arith, get_or-set_same m 0 1 0 (omega arith))
 
 -- after a block
 
@@ -263,10 +260,10 @@ block-ahead F b m wish left known order nz some_left e = record {
 }
 
 -- the block chosen is a part of a free block
-module _ (F : ℕ) (b m : List ℕ) (wish left : ℕ) (known : Bound) (r : Cut) (some_left : 1 ≤ left) (ch : Chooses F b m wish left known r)
-    (w : List ℕ) (st : Stands F b m w) (searched : Searched F (free_in w) known) (enough : left ≤ count F (free_in w)) where
+module _ (F : ℕ) (b m : List ℕ) (wish left : ℕ) (known : Bound) (r : Cut) (ch : Chooses F b m wish left known (Some r))
+    (w : List ℕ) (st : Stands F b m w) (searched : Searched F (free_in w) known) where
   is : take_block F (free_in w) (some wish) left ≡ some r.block
-  is = chosen_is F w wish left r.block some_left enough (ch.block w st searched)
+  is = ch.block w st searched
 
   part : PartOf F w r.block.start.0 r.block.order r.top
   part = chosen-part F w st.lawful wish left r.block is r.top (ch.first w st searched)
@@ -291,29 +288,29 @@ module _ (F : ℕ) (b m : List ℕ) (wish left : ℕ) (known : Bound) (r : Cut) 
       let here = subst (BlockAt F (free_in w) r.top) starts there in
       rest-ahead F (free_in w) left r.block.order r.top r.block.start.0 (taken-order F (free_in w) wish left r.block is) more (at-whole F (free_in w) r.top r.block.start.0 here.maximal.small starts here.maximal.whole)
 
-pub cut-facts : (F : ℕ) (b m : List ℕ) (wish left : ℕ) (known : Bound) (r : Cut) → 1 ≤ left → ahead_of m ≡ 0 → Previewed F b m wish left known → Chooses F b m wish left known r
+pub cut-facts : (F : ℕ) (b m : List ℕ) (wish left : ℕ) (known : Bound) (r : Cut) → ahead_of m ≡ 0 → Previewed F b m wish left known → Chooses F b m wish left known (Some r)
     → (r.block.order ≤ r.top) × ((r.block.start.0 < 4096) × (r.block.order ≡ r.top → gone_at m r.block.start.0 ≡ false))
-cut-facts F b m wish left known r some_left z p ch =
+cut-facts F b m wish left known r z p ch =
     let st = p.marking.stands z in (
-      (part F b m wish left known r some_left ch p.words st p.searched p.enough).below,
-      (cut_inside F b m wish left known r some_left ch p.words st p.searched p.enough, not-gone F b m wish left known r some_left ch p.words st p.searched p.enough),
+      (part F b m wish left known r ch p.words st p.searched).below,
+      (cut_inside F b m wish left known r ch p.words st p.searched, not-gone F b m wish left known r ch p.words st p.searched),
     )
 
-pub block-cut : (F : ℕ) (b m : List ℕ) (wish left : ℕ) (known : Bound) (r : Cut) (m' : List ℕ) → ahead_of m ≡ 0 → 1 ≤ left → Chooses F b m wish left known r
+pub block-cut : (F : ℕ) (b m : List ℕ) (wish left : ℕ) (known : Bound) (r : Cut) (m' : List ℕ) → ahead_of m ≡ 0 → Chooses F b m wish left known (Some r)
     → CutMarked m r.block.start.0 r.block.order r.top m' → (y : Chosen) → y.block ≡ r.block → y.known ≡ bound_after known r.block wish left → BlockMarked F b m wish left known y m'
-block-cut F b m wish left known r m' z some_left ch cut y ye ke = subst (λ (v : Chosen). BlockMarked F b m wish left known v m') (sym (chosen-same y r.block next ye ke)) (record {
+block-cut F b m wish left known r m' z ch cut y ye ke = subst (λ (v : Chosen). BlockMarked F b m wish left known v m') (sym (chosen-same y r.block next ye ke)) (record {
   marked = λ w o mk searched enough pos room.
       let x : Block = r.block in
       let st = mk.stands z in
-      let xe = is F b m wish left known r some_left ch w st searched enough in
-      let p = part F b m wish left known r some_left ch w st searched enough in
+      let xe = is F b m wish left known r ch w st searched in
+      let p = part F b m wish left known r ch w st searched in
       let w' : List ℕ = frame_words F (handed (owners_of w) x.order x.start.0 o) in
       let taken = block-searched F w mk.lawful wish left x xe o pos room known searched (record { block = x; known = next }) refl refl w' refl in
       let rest = rest_of F w o wish left (record { block = x; known = next }) w' mk.lawful pos room enough taken in (
         w',
         taken,
         marking-then F b m' w o wish left x w' rest p.starts
-            (λ nz _. ahead nz (cut-ahead F b m wish left known r some_left ch w st searched enough mk.before) cut)
+            (λ nz _. ahead nz (cut-ahead F b m wish left known r ch w st searched mk.before) cut)
             (λ none_ahead. stands none_ahead (λ e g. still-stands F b m w st x.start.0 x.order o (subst (PartOf F w x.start.0 x.order) (sym e) p) pos (omega (arith, rest.fits)) m' g rest.lawful rest.free) cut),
       );
 })

@@ -3,7 +3,7 @@ use mathlib.Core.Path.{◌≡◌, refl, ap, ◌∙◌, sym}
 use mathlib.Core.Bool.{Bool, true, false}
 use mathlib.Core.List.{List}
 use mathlib.Core.Option.{Option, none, some}
-use Prim.Native.Nat.{ℕ, ◌+◌, ◌^◌, ◌-◌, ◌<◌, ◌≤◌, zero-le}
+use Prim.Native.Nat.{ℕ, ◌+◌, ◌*◌, ◌^◌, ◌-◌, ◌<◌, ◌≤◌, min, zero-le}
 use native.Mathlib.Decide.{dec_lt, dec_le, ℕ_discrete}
 use native.Mathlib.Omega.{arith}
 use lib.Dec.{eqb, leb, ltb}
@@ -21,7 +21,7 @@ use Rattle.blocks.specs.FrameWords.{free_in, lawful}
 use Rattle.blocks.specs.Choice.{lowest, serving, is_served, order_for, cut_at, take_from, old_choice, take_order, take_block, end_of, without}
 use Rattle.blocks.specs.Inner.Around.{start_of, around}
 use Rattle.blocks.specs.Inner.Taking.{Clear, Searched, nothing_known}
-use Rattle.blocks.specs.Inner.Passes.{order_within, order_at, least, TopOrder, as_block, scan_from, from_after, bound_after}
+use Rattle.blocks.specs.Inner.Passes.{order_within, order_at, TopOrder, scan_from, from_after, bound_after}
 use Rattle.blocks.proofs.AroundLaws.{start-next, in-block, block_in, start-same, start-start, around-at, at-around, without-free, without-out}
 use Rattle.blocks.proofs.FreeBlockLaws.{BlockAt, free-block-at, at-free-block, in-block-at}
 use Rattle.blocks.proofs.WordLaws.{lawful-is, word-block, no_block}
@@ -60,20 +60,6 @@ tried-small limit top t k h e =
     (λ le. let q = tried-up limit top t le in omega arith)
     (λ gt. let q = tried-down limit top t (omega arith) in omega arith)
 
-pub least_first : (a b : ℕ) → a < b → a ≡ least a b
-unfolding least
-least_first a b h = rw (lt-ltb _ _ h, least)
-
-pub least-second : (a b : ℕ) → b ≤ a → b ≡ least a b
-unfolding least
-least-second a b h = rw (le-ltb _ _ h, least)
-
-pub least-is : (a b m : ℕ) → m ≡ least a b → (m ≤ a) × (m ≤ b) × (m < b → m ≡ a)
-least-is a b m e =
-    by-dec (dec_lt a b)
-    (λ lt. let q = least_first a b lt in (omega arith, omega arith, λ h. omega arith))
-    (λ ge. let q = least-second a b (omega arith) in (omega arith, omega arith, λ h. absurd (omega arith)))
-
 -- the largest order up to a limit
 
 -- some order fits
@@ -85,59 +71,56 @@ order-there left pos = go (largest 10 (λ i. leb (2 ^ i) left)) refl (largest-is
     go o e (greatest j hi y m) = (j, e)
     go o e (nothing m) = true-false (leb 1 left) (le-leb 1 left pos) (m 0 zero-le)
 
--- as the code finds it
-pub top-found : (left limit k z : ℕ) → limit ≤ 10 → k ≤ limit → z ≡ 2 ^ k → z ≤ left → (k < limit → left < z + z) → TopOrder left limit k
-top-found left limit k z cap hk e fits less = record {
+-- as the code finds it: k is the logarithm of the pages left, rounded down
+pub top-found : (left limit k r : ℕ) → limit ≤ 10 → 2 ^ k ≤ left → left < 2 * 2 ^ k → r ≡ min k limit → TopOrder left limit r
+top-found left limit k r cap fits less re = record {
   is-least = λ L o.
       let w = within left L o in
-      let up : k ≤ L = by-dec (dec_le k L) (λ le. le) (λ gt. true-false (leb (2 ^ k) left) (le-leb (2 ^ k) left (omega arith)) (w.no_more k (omega arith) (omega arith))) in
-      by-dec (dec_lt k limit)
-      (λ lt.
-      let d = double k in
-      let same : k ≡ L = by-dec (dec_lt k L) (λ more. let m : 2 ^ (k + 1) ≤ 2 ^ L = pow_mono (omega arith) in absurd (omega (arith, less lt, w.fits))) (λ le. omega arith) in
-      same ∙ least_first L limit (omega arith))
-      (λ ge. let q = least-second L limit (omega arith) in omega arith);
+      let up : (m : ℕ) → m ≤ k → m ≤ 10 → m ≤ L =
+      λ m lo hi. by-dec (dec_le m L) (λ le. le) (λ gt. let p : 2 ^ m ≤ 2 ^ k = pow_mono lo in true-false (leb (2 ^ m) left) (le-leb (2 ^ m) left (omega arith)) (w.no_more m (omega arith) hi))
+      in
+      let down : L ≤ k = by-dec (dec_le L k) (λ le. le) (λ gt. let p : 2 ^ (k + 1) ≤ 2 ^ L = pow_mono (omega arith) in absurd (omega (arith, double k, p, w.fits))) in
+      omega (arith, up (min k 10) (omega arith) (omega arith), down, w.small, cap, re);
 }
 
 module _ (left limit top : ℕ) (pos : 1 ≤ left) (found : TopOrder left limit top) where
-  pub top-is : (L : ℕ) × (order_within left ≡ some L) × (top ≡ least L limit)
+  pub top-is : (L : ℕ) × (order_within left ≡ some L) × (top ≡ min L limit)
   top-is = let q = order-there left pos in (q.0, q.1, found.is-least q.0 q.1)
 
   pub top-low : top ≤ limit
-  top-low = (least-is _ limit top top-is.2).1
+  top-low = omega (arith, top-is.2)
 
   -- up to the largest order of all it is the one that fits
   pub top-fits : 10 ≤ limit → order_within left ≡ some top
   top-fits all =
       let q = top-is in
-      let l = least-is q.0 limit top q.2 in
       let w = within left q.0 q.1 in
-      let same : q.0 ≡ top = by-dec (dec_lt top limit) (λ lt. sym (l.2 lt)) (λ ge. omega (arith, l.0, w.small)) in
+      let same : q.0 ≡ top = omega (arith, all, w.small, q.2) in
       q.1 ∙ ap some same
 
 -- no order tried before t has a free block
-pub None : ℕ → (ℕ → Bool) → ℕ → ℕ → ℕ → Type 0
-None F free limit top t = (u : ℕ) → u < t → lowest F free (order_at limit top u) ≡ none
+pub NoneTried : ℕ → (ℕ → Bool) → ℕ → ℕ → ℕ → Type 0
+NoneTried F free limit top t = (u : ℕ) → u < t → lowest F free (order_at limit top u) ≡ none
 
 module _ (F : ℕ) (free : ℕ → Bool) (limit top : ℕ) where
-  pub none-zero : None F free limit top 0
-  unfolding None
+  pub none-zero : NoneTried F free limit top 0
+  unfolding NoneTried
   none-zero u h = absurd (omega arith)
 
-  none_more : (t : ℕ) → None F free limit top t → lowest F free (order_at limit top t) ≡ none → None F free limit top (t + 1)
-  unfolding None
+  none_more : (t : ℕ) → NoneTried F free limit top t → lowest F free (order_at limit top t) ≡ none → NoneTried F free limit top (t + 1)
+  unfolding NoneTried
   none_more t n e u h = by-dec (ℕ_discrete u t) (λ x. rw x e) (λ ne. n u (omega arith))
 
   -- an order at least top, and one below it
-  none-up : (t j : ℕ) → None F free limit top t → top ≤ j → j ≤ limit → j < top + t → lowest F free j ≡ none
-  unfolding None
+  none-up : (t j : ℕ) → NoneTried F free limit top t → top ≤ j → j ≤ limit → j < top + t → lowest F free j ≡ none
+  unfolding NoneTried
   none-up t j n lo hi lt =
       let e : top + (j - top) ≡ j = omega arith in
       let o : order_at limit top (j - top) ≡ j = sym (tried-up limit top (j - top) (omega arith)) ∙ e in
       ap (lowest F free) (sym o) ∙ n (j - top) (omega arith)
 
-  none-down : (t j : ℕ) → top ≤ limit → None F free limit top t → j < top → limit < t + j → lowest F free j ≡ none
-  unfolding None
+  none-down : (t j : ℕ) → top ≤ limit → NoneTried F free limit top t → j < top → limit < t + j → lowest F free j ≡ none
+  unfolding NoneTried
   none-down t j tl n lo lt =
       let e : limit - (limit - j) ≡ j = omega arith in
       let o : order_at limit top (limit - j) ≡ j = sym (tried-down limit top (limit - j) (omega arith)) ∙ e in
@@ -168,30 +151,28 @@ module _ (F : ℕ) (free : ℕ → Bool) (left : ℕ) where
       (λ t. rw (t, is_served) (none_is _ z))
       (λ t. rw (t, is_served))
 
-  module _ (limit top L : ℕ) (cap : limit ≤ 10) (above : NoneAbove F free limit) (w : Within left L) (te : top ≡ least L limit) where
+  module _ (limit top L : ℕ) (cap : limit ≤ 10) (above : NoneAbove F free limit) (w : Within left L) (te : top ≡ min L limit) where
     -- an order above top does not fit, or nothing is free of it or above
     none-served : (m : ℕ) → top < m → m ≤ 10 → is_served F free left m ≡ false
     unfolding NoneAbove
     none-served m lt hi =
-        let q = least-is L limit top te in
         by-dec (dec_le m L)
-        (λ mL. unserved m (λ j lo h. above j (by-dec (dec_lt top limit) (λ x. let z = q.2 x in absurd (omega arith)) (λ x. omega arith)) h) hi)
+        (λ mL. unserved m (λ j lo h. above j (omega arith) h) hi)
         (λ gt. too_large m (w.no_more m (omega arith) hi))
 
-    first-order : (t s : ℕ) → t ≤ limit → None F free limit top t → lowest F free (order_at limit top t) ≡ some s
-        → take_block F free none left ≡ some (block (least (order_at limit top t) top) s)
+    first-order : (t s : ℕ) → t ≤ limit → NoneTried F free limit top t → lowest F free (order_at limit top t) ≡ some s
+        → take_block F free none left ≡ some (block (min (order_at limit top t) top) s)
     unfolding serving NoneAbove
     first-order t s ht n e =
-        let q = least-is L limit top te in
-        let topL = q.0 in
-        let topl = q.1 in
+        let topL : top ≤ L = omega arith in
+        let topl : top ≤ limit = omega arith in
         let f = w.fits in
         let fm : 2 ^ top ≤ 2 ^ L = pow_mono topL in
         by-dec (dec_le (top + t) limit)
         (λ le.
         let o : order_at limit top t ≡ top + t = sym (tried-up limit top t le) in
         let a : lowest F free (top + t) ≡ some s = ap (lowest F free) (sym o) ∙ e in
-        let l : least (order_at limit top t) top ≡ top = ap (λ (x : ℕ). least x top) o ∙ sym (least-second (top + t) top (omega arith)) in
+        let l : min (order_at limit top t) top ≡ top = omega arith in
         let sv : serving F free top ≡ some (top + t) =
         first-unique (11 - top) top (λ j. is_some (lowest F free j)) (top + t) (omega arith) (omega arith) (some_is _ s a)
         (λ j lo hi. none_is _ (none-up F free limit top t j n lo (omega arith) hi))
@@ -201,7 +182,7 @@ module _ (F : ℕ) (free : ℕ → Bool) (left : ℕ) where
         let k : ℕ = limit - t in
         let o : order_at limit top t ≡ k = sym (tried-down limit top t (omega arith)) in
         let a : lowest F free k ≡ some s = ap (lowest F free) (sym o) ∙ e in
-        let l : least (order_at limit top t) top ≡ k = ap (λ (x : ℕ). least x top) o ∙ sym (least_first k top (omega arith)) in
+        let l : min (order_at limit top t) top ≡ k = omega arith in
         let up : (j : ℕ) → k < j → j ≤ 10 → lowest F free j ≡ none =
         λ j lo hi. by-dec (dec_lt limit j) (λ x. above j x hi)
         (λ x. by-dec (dec_le top j) (λ ge. none-up F free limit top t j n ge (omega arith) (omega arith)) (λ lt. none-down F free limit top t j topl n (omega arith) (omega arith)))
@@ -213,10 +194,10 @@ module _ (F : ℕ) (free : ℕ → Bool) (left : ℕ) where
         let m : 2 ^ k ≤ 2 ^ top = pow_mono (omega arith) in
         rw l (taken k k s (omega arith) (omega arith) sv a (λ m lt hi. unserved m (λ j lo h. up j (omega arith) h) hi)))
 
-    no-order : None F free limit top (limit + 1) → take_block F free none left ≡ none
+    no-order : NoneTried F free limit top (limit + 1) → take_block F free none left ≡ none
     unfolding take_block order_for take_order NoneAbove
     no-order n =
-        let topl = (least-is L limit top te).1 in
+        let topl : top ≤ limit = omega arith in
         let all : (j : ℕ) → j ≤ 10 → lowest F free j ≡ none =
         λ j hi. by-dec (dec_lt limit j) (λ x. above j x hi)
         (λ x. by-dec (dec_le top j) (λ ge. none-up F free limit top (limit + 1) j n ge (omega arith) (omega arith)) (λ lt. none-down F free limit top (limit + 1) j topl n (omega arith) (omega arith)))
@@ -279,20 +260,12 @@ pub scan-other : (x : Bound) (k : ℕ) → (k ≡ x.limit → ⊥) → 0 ≡ sca
 unfolding scan_from
 scan-other x k n = rw (ne_eqb _ _ n, scan_from)
 
-pub as_some : (o : Option Block) (x : Block) → o ≡ some x → x ≡ as_block o
-unfolding as_block
-as_some o x e = rw e
-
-as_none : (o : Option Block) → o ≡ none → block 11 0 ≡ as_block o
-unfolding as_block
-as_none o e = rw e
-
 above_of : (F : ℕ) (free : ℕ → Bool) (x : Bound) → Searched F free x → NoneAbove F free x.limit
 unfolding NoneAbove
 above_of F free x known = known.above
 
 -- the order that is chosen, where earlier searches have shown x: at most the least of its limit and the order that fits
-module _ (F : ℕ) (free : ℕ → Bool) (left : ℕ) (x : Bound) (L top : ℕ) (o : order_within left ≡ some L) (te : top ≡ least L x.limit) (known : Searched F free x) where
+module _ (F : ℕ) (free : ℕ → Bool) (left : ℕ) (x : Bound) (L top : ℕ) (o : order_within left ≡ some L) (te : top ≡ min L x.limit) (known : Searched F free x) where
   pub above-top : (m : ℕ) → top < m → m ≤ 10 → is_served F free left m ≡ false
   above-top = none-served F free left x.limit top L known.small (above_of F free x known) (within left L o) te
 
@@ -308,22 +281,22 @@ module _ (F : ℕ) (free : ℕ → Bool) (left : ℕ) (x : Bound) (L top : ℕ) 
 
 -- what the search ends with
 
-module _ (F : ℕ) (b : List ℕ) (lw : lawful F b ≡ true) (left : ℕ) (x : Bound) (L top t : ℕ) (o : order_within left ≡ some L) (te : top ≡ least L x.limit) (known : Searched F (free_in b) x) where
-  pub chosen : (k f m : ℕ) → t < x.limit + 1 → k ≡ order_at x.limit top t → None F (free_in b) x.limit top t → Clear F (free_in b) k f → f < F → get_or b f 0 ≡ 16384 + k
-      → m ≡ least k top → block m f ≡ as_block (take_block F (free_in b) none left)
+module _ (F : ℕ) (b : List ℕ) (lw : lawful F b ≡ true) (left : ℕ) (x : Bound) (L top t : ℕ) (o : order_within left ≡ some L) (te : top ≡ min L x.limit) (known : Searched F (free_in b) x) where
+  pub chosen : (k f m : ℕ) → t < x.limit + 1 → k ≡ order_at x.limit top t → NoneTried F (free_in b) x.limit top t → Clear F (free_in b) k f → f < F → get_or b f 0 ≡ 16384 + k
+      → m ≡ min k top → take_block F (free_in b) none left ≡ some (block m f)
   chosen k f m ht ke n cl h e me =
       let is : lowest F (free_in b) k ≡ some f = clear-found F (free_in b) k f cl h (at-free-block F (free_in b) k f (word-block F b (lawful-is F b lw) k f h e)) in
-      let took : take_block F (free_in b) none left ≡ some (block (least (order_at x.limit top t) top) f) =
+      let took : take_block F (free_in b) none left ≡ some (block (min (order_at x.limit top t) top) f) =
       first-order F (free_in b) left x.limit top L known.small (above_of F (free_in b) x known) (within left L o) te t f (omega arith) n (rw (← ke) is)
       in
-      let mm : m ≡ least (order_at x.limit top t) top = rw (← ke) me in
-      rw mm (as_some _ _ took)
+      let mm : m ≡ min (order_at x.limit top t) top = rw (← ke) me in
+      rw mm took
 
-  pub chosen_none : None F (free_in b) x.limit top t → t ≡ x.limit + 1 → block 11 0 ≡ as_block (take_block F (free_in b) none left)
-  chosen_none n e = as_none _ (no-order F (free_in b) left x.limit top L known.small (above_of F (free_in b) x known) (within left L o) te (rw e at n))
+  pub chosen_none : NoneTried F (free_in b) x.limit top t → t ≡ x.limit + 1 → take_block F (free_in b) none left ≡ none
+  chosen_none n e = no-order F (free_in b) left x.limit top L known.small (above_of F (free_in b) x known) (within left L o) te (rw e at n)
 
 -- the scan for an order has passed the pool
-pub skipped : (F : ℕ) (free : ℕ → Bool) (limit top t k f : ℕ) → k ≡ order_at limit top t → None F free limit top t → Clear F free k f → F ≤ f → None F free limit top (t + 1)
+pub skipped : (F : ℕ) (free : ℕ → Bool) (limit top t k f : ℕ) → k ≡ order_at limit top t → NoneTried F free limit top t → Clear F free k f → F ≤ f → NoneTried F free limit top (t + 1)
 skipped F free limit top t k f ke n cl h = none_more F free limit top t n (rw (← ke) (clear_none F free k f cl h))
 
 -- the scan goes one block on

@@ -18,7 +18,7 @@ use Rattle.words.specs.Inner.{Filled, same_in}
 use Rattle.words.proofs.PowerLaws.{double}
 use Rattle.blocks.specs.FrameWords.{owner_of, owners_of, free_in, owned_in, lawful, frame_word, frame_words}
 use Rattle.blocks.specs.Inner.Around.{start_of, around, free_order, order_word}
-use Rattle.blocks.specs.Inner.Passes.{Edge, SettledTo, Checked, HeldTo}
+use Rattle.blocks.specs.Inner.Passes.{Edge, SettledTo, Checked, Wrong, HeldTo}
 use Rattle.blocks.proofs.AroundLaws.{finer, coarser, in-block, block_in, start-same, around-at, at-around, around-same, smaller, around-ext, free-around, Maximal, order-here, maximal-order, maximal-same}
 use Rattle.blocks.proofs.WordLaws.{not-owner, owner-low, owner-high, owners-small, free-same, free-zero, is_free, is_held, start_word, other_word, free-frame, held_word, high_word, word-ext, words-ext, owner-back, lawful-yes, lawful-no}
 
@@ -255,23 +255,23 @@ module _ (F : ℕ) (free : ℕ → Bool) (f : ℕ) (edge : Edge F free f) where
 
 module _ (F : ℕ) (b : List ℕ) (f : ℕ) (h : f < F) (edge : Edge F (free_in b) f) where
   module _ (k : ℕ) (t : free_in b f ≡ true) (e : free_order F (free_in b) f ≡ some k) where
-    check-first : (get_or b f 0 ≡ 16384 + k → ⊥) → Checked F b f 0
-    check-first n = let x = block_here F b f h edge k t e in record { good = λ z. absurd (z refl); free = λ g lo hi. absurd (omega arith); bad = λ z. (f, h, λ q. n (q ∙ x.first)) }
+    check-first : (get_or b f 0 ≡ 16384 + k → ⊥) → Wrong F b
+    check-first n = let x = block_here F b f h edge k t e in record { place = f; below = h; differs = λ q. n (q ∙ x.first) }
 
     module _ (z : ℕ) (size : z ≡ 2 ^ k) where
-      pub check-others : all_from (f + z - (f + 1)) (f + 1) (same_in b 8192) ≡ false → Checked F b f 0
+      pub check-others : all_from (f + z - (f + 1)) (f + 1) (same_in b 8192) ≡ false → Wrong F b
       unfolding same_in
       check-others n =
           let x = block_here F b f h edge k t e in
           let w = level-fits F b f h edge k t e in
-          record { good = λ q. absurd (q refl); free = λ g lo hi. absurd (omega arith); bad = λ q. search-wrong x w.0 }
+          search-wrong x w.0
         where
-          search-wrong : BlockHere F b f h edge k → f + 2 ^ k ≤ F → (g : ℕ) × (g < F) × (get_or b g 0 ≡ frame_word F (owners_of b) g → ⊥)
+          search-wrong : BlockHere F b f h edge k → f + 2 ^ k ≤ F → Wrong F b
           search-wrong x fits =
               let r = some-fails (f + z - (f + 1)) (f + 1) (same_in b 8192) n in
               let lo = r.1 in
               let hi = r.2 in
-              (r.0, omega arith, λ q. true-false (same_in b 8192 r.0) (eq-eqb _ _ (q ∙ x.others r.0 (omega arith) (omega arith))) r.3)
+              record { place = r.0; below = omega arith; differs = λ q. true-false (same_in b 8192 r.0) (eq-eqb _ _ (q ∙ x.others r.0 (omega arith) (omega arith))) r.3 }
 
       check-block : get_or b f 0 ≡ 16384 + k → all_from (f + z - (f + 1)) (f + 1) (same_in b 8192) ≡ true → Checked F b f (f + z)
       unfolding same_in owned_in
@@ -281,7 +281,7 @@ module _ (F : ℕ) (b : List ℕ) (f : ℕ) (h : f < F) (edge : Edge F (free_in 
           let room = w.0 in
           let some-z = w.2 in
           record {
-            good = λ q. record {
+            settled = record {
               on = omega arith;
               inside = omega arith;
               words = λ g lo hi. by-dec (ℕ_discrete g f)
@@ -294,7 +294,6 @@ module _ (F : ℕ) (b : List ℕ) (f : ℕ) (h : f < F) (edge : Edge F (free_in 
             free = λ g lo hi. by-dec (ℕ_discrete g f)
                 (λ gf. rw gf (not-owner (get_or b f 0) (omega arith)))
                 (λ ne. other-frame g (eqb-true _ _ (all_from_at _ _ (same_in b 8192) others g (omega arith) (omega arith))));
-            bad = λ q. absurd (omega arith);
           }
         where
           other-frame : (g : ℕ) → get_or b g 0 ≡ 8192 → owned_in b g ≡ false
@@ -303,11 +302,11 @@ module _ (F : ℕ) (b : List ℕ) (f : ℕ) (h : f < F) (edge : Edge F (free_in 
   -- the head word names an order
   module _ (t : free_in b f ≡ true) where
     -- none that a block can have
-    pub check-none : ((k : ℕ) → k ≤ 10 → get_or b f 0 ≡ 16384 + k → ⊥) → Checked F b f 0
+    pub check-none : ((k : ℕ) → k ≤ 10 → get_or b f 0 ≡ 16384 + k → ⊥) → Wrong F b
     check-none n = let q = order-here F (free_in b) f h t in check-first q.0 t q.1 (n q.0 q.2.small)
 
     -- one that is wrong where the block of that order is not lawful
-    pub check-order : (k : ℕ) → get_or b f 0 ≡ 16384 + k → (free_order F (free_in b) f ≡ some k → Checked F b f 0) → Checked F b f 0
+    pub check-order : (k : ℕ) → get_or b f 0 ≡ 16384 + k → (free_order F (free_in b) f ≡ some k → Wrong F b) → Wrong F b
     check-order k w bad =
         let q = order-here F (free_in b) f h t in
         by-dec (ℕ_discrete q.0 k)
@@ -315,14 +314,14 @@ module _ (F : ℕ) (b : List ℕ) (f : ℕ) (h : f < F) (edge : Edge F (free_in 
         (λ ne. check-first q.0 t q.1 (λ e. ne (omega arith)))
 
     -- no block of that order starts here
-    pub check-start : (k : ℕ) → get_or b f 0 ≡ 16384 + k → (start_of k f ≡ f → ⊥) → Checked F b f 0
+    pub check-start : (k : ℕ) → get_or b f 0 ≡ 16384 + k → (start_of k f ≡ f → ⊥) → Wrong F b
     check-start k w n = check-order k w (λ e. absurd (n (block_here F b f h edge k t e).starts))
 
-    pub check-end : (k z : ℕ) → z ≡ 2 ^ k → get_or b f 0 ≡ 16384 + k → F < f + z → Checked F b f 0
+    pub check-end : (k z : ℕ) → z ≡ 2 ^ k → get_or b f 0 ≡ 16384 + k → F < f + z → Wrong F b
     check-end k z size w n = check-order k w (λ e. absurd (omega (arith, (level-fits F b f h edge k t e).0)))
 
     -- that block is half of a wholly free one
-    pub check-larger : (k : ℕ) → k < 10 → get_or b f 0 ≡ 16384 + k → around F (free_in b) f (k + 1) ≡ true → Checked F b f 0
+    pub check-larger : (k : ℕ) → k < 10 → get_or b f 0 ≡ 16384 + k → around F (free_in b) f (k + 1) ≡ true → Wrong F b
     check-larger k less w y = check-order k w (λ e. true-false (around F (free_in b) f (k + 1)) y ((block_here F b f h edge k t e).maximal.alone (k + 1) (omega arith) (omega arith)))
 
     -- the other words say that they are free
@@ -346,8 +345,8 @@ module _ (F : ℕ) (b : List ℕ) (f : ℕ) (h : f < F) (edge : Edge F (free_in 
         check-block k t (no_more F (free_in b) f edge k small (block-free k z size st room others) stop) z size w others
 
 -- a wrong word
-pub lawful-wrong : (F : ℕ) (b : List ℕ) → F ≤ 4096 → (g : ℕ) × (g < F) × (get_or b g 0 ≡ frame_word F (owners_of b) g → ⊥) → false ≡ lawful F b
-lawful-wrong F b small w = let lt = w.1 in lawful-no F b (λ l. w.2 (l.words w.0 (omega arith)))
+pub lawful-wrong : (F : ℕ) (b : List ℕ) → F ≤ 4096 → Wrong F b → false ≡ lawful F b
+lawful-wrong F b small w = let lt = w.below in lawful-no F b (λ l. w.differs (l.words w.place (omega arith)))
 
 module _ (F : ℕ) (b : List ℕ) where
   pub lawful-tail : (f : ℕ) → length b ≡ 4096 → 1 ≤ F → F ≤ 4096 → F ≤ f → Sofar F b b f → all_from (4096 - F) F (same_in b 65535) ≡ lawful F b

@@ -27,9 +27,6 @@ use Rattle.blocks.proofs.SettleLaws.{block-end}
 
 -- first words of halves
 
-pub halves-none : (b : List ℕ) (s i : ℕ) → Halved b s i i b
-halves-none b s i = record { halves = λ m lo hi. absurd (omega arith); others = λ g n. refl }
-
 pub halves-more : (b : List ℕ) (s i k t : ℕ) (b' : List ℕ) → i ≤ k → t ≡ other_half k s → t < length b' → Halved b s i k b' → Halved b s i (k + 1) (set b' t (16384 + k))
 halves-more b s i k t b' ik e h f =
     record {

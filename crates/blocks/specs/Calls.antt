@@ -7,25 +7,12 @@ use Rattle.words.specs.declared.Outcome.{Outcome}
 use Rattle.words.specs.Counts.{count}
 use Rattle.words.specs.Searches.{all_from, any_from}
 use Rattle.words.specs.Refusals.{Refusal}
-use Rattle.words.specs.Rows.{refusal, values, Row, Promised}
-use Rattle.blocks.specs.declared.Reply.{Reply}
-use Rattle.blocks.specs.declared.Reply.TheVariants.{Done, WrongLength, Unlawful, WrongPoolSize, WrongSpan, AlreadyHeld, NotHeld, TooFewFrames}
+use Rattle.words.specs.Rows.{Row, Promised}
 use Rattle.blocks.specs.declared.PoolCall.{PoolCall}
 use Rattle.blocks.specs.declared.PoolCall.TheVariants.{SetUp, Check, Count, Allocate, Free}
 use Rattle.blocks.specs.FrameWords.{frame_buffer_words, largest_owner, is_pool_size, owners_of, free_in, lawful, frame_words}
 use Rattle.blocks.specs.Choice.{frames_for, block_count, wish_of}
 use Rattle.blocks.specs.Owners.{give, freed, holds}
-
--- the number, first and second value of each answer
-abbrev pub outcome : Reply → Outcome
-outcome (Done v) = values v 0
-outcome WrongLength = refusal 1
-outcome Unlawful = refusal 2
-outcome WrongPoolSize = refusal 4
-outcome WrongSpan = refusal 8
-outcome AlreadyHeld = refusal 11
-outcome NotHeld = refusal 12
-outcome TooFewFrames = refusal 14
 
 -- what a call on the pool is lent: the frame words and, to allocate, a list for frame numbers
 pub record PoolWords : Type 0 where

@@ -22,6 +22,7 @@ pub const NO_FRAME: u32 = 65535;
 // The orders of blocks are 0 to 10.
 pub const ORDERS: u32 = 11;
 
+// Stays: marks are words, one that says whether the rest is ahead and a bit for each frame: the definitions (`gone_at`) and `mark_block` of frames have them so, and memory is fixed.
 // The words of the marks of a preview: whether the rest is ahead, and a bit for each frame (specs/Inner/Marks).
 pub const MARK_WORDS: usize = 129;
 
@@ -57,13 +58,6 @@ pub struct Chosen {
     pub known: Bound,
 }
 
-// What the check of a buffer finds: whether its words are lawful, and where they are, how many frames are held.
-#[derive(Clone, Copy)]
-pub struct Judged {
-    pub lawful: bool,
-    pub held: u32,
-}
-
 // The calls on the pool, with their arguments; allocate takes as many frames as the list that it is lent has places, the first block at the wished frame where the rule says so.
 #[derive(Clone, Copy)]
 pub enum PoolCall {
@@ -72,17 +66,4 @@ pub enum PoolCall {
     Count(u32),
     Allocate { pool: u32, owner: u32, wish: u32 },
     Free { pool: u32, owner: u32, count: u32 },
-}
-
-// What a call on the pool answers: its first value, or why it is refused.
-#[derive(Clone, Copy)]
-pub enum Reply {
-    Done(u32),
-    WrongLength,
-    Unlawful,
-    WrongPoolSize,
-    WrongSpan,
-    AlreadyHeld,
-    NotHeld,
-    TooFewFrames,
 }

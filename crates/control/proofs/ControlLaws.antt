@@ -1,6 +1,6 @@
 -- Laws of the control buffer: its fields after each change, and the changes that keep it lawful.
 use mathlib.Core.Path.{◌≡◌, refl, ap, ◌∙◌, sym}
-use mathlib.Core.Bool.{Bool, true, false, ◌&&◌}
+use mathlib.Core.Bool.{Bool, true, false, ◌&&◌, and_assoc}
 use mathlib.Core.List.{List}
 use Prim.Native.Nat.{ℕ, zero, suc, ◌+◌, ◌-◌, ◌%◌, ◌^◌, ◌≤◌, ◌<◌, zero-le}
 use native.Mathlib.Nat.{mod-lt, mod-eq_of_lt, add-zero}
@@ -9,9 +9,9 @@ use native.Mathlib.Omega.{arith}
 use lib.Dec.{leb, eqb}
 use lib.ListN.{length, get_or, set, length-set, length-replicate, get_or-replicate}
 use lib.Seq.{get_or-set_same, get_or-set_other, ext_get_or}
-use borrow.Author.Tests.{leb-true, le-leb, lt-leb, eqb-true, eq-eqb, ne_eqb}
+use borrow.Author.Tests.{leb-true, le-leb, lt-leb, eqb-true}
+use Rattle.std.specs.List.{list_all, range_with_len}
 use Rattle.words.specs.Searches.{all_from}
-use Rattle.words.specs.Inner.{Filled}
 use Rattle.words.proofs.Cases.{by-test, by-dec, true-false, and-true, true-and}
 use Rattle.words.proofs.SearchLaws.{all_from_at, at-all_from}
 use Rattle.blocks.specs.FrameWords.{is_pool_size}
@@ -224,14 +224,14 @@ module _ (F : ℕ) where
       (fresh-word (word_of_place j) (omega arith) (omega arith), fresh-word (word_of_place j + 1) (omega arith) (omega arith), fresh-word (word_of_place j + 2) (omega arith) (omega arith))
 
   -- a buffer of zeros in which the pool size is written
-  pub fresh-is : (b c : List ℕ) → Filled b 0 control_buffer_words 0 c → length c ≡ control_buffer_words → set c 0 F ≡ fresh_control F
+  pub fresh-is : (c : List ℕ) → ((i : ℕ) → i < control_buffer_words → get_or c i 0 ≡ 0) → length c ≡ control_buffer_words → set c 0 F ≡ fresh_control F
   unfolding fresh_control
-  fresh-is b c zeros len =
+  fresh-is c zeros len =
       ext_get_or 0 (set c 0 F) (fresh_control F) (length-set c 0 F ∙ len ∙ sym fresh-length) (λ i hi.
       let lt : i < control_buffer_words = omega (arith, length-set c 0 F) in
       by-dec (ℕ_discrete i 0)
       (λ z. rw z (get_or-set_same c 0 F 0 (omega arith)))
-      (λ nz. get_or-set_other c 0 i F 0 nz ∙ zeros.inside i zero-le lt ∙ sym (fresh-word i (omega arith) lt)))
+      (λ nz. get_or-set_other c 0 i F 0 nz ∙ zeros i lt ∙ sym (fresh-word i (omega arith) lt)))
 
 -- which places are used
 
@@ -329,14 +329,9 @@ module _ (u : Bool) (s f n : ℕ) (t : u ≡ false) where
       let b = and-true _ _ a.1 in
       (eqb-true _ _ a.0, eqb-true _ _ b.0, eqb-true _ _ b.1)
 
-  pub unused-no : (s ≡ 0 → f ≡ 0 → n ≡ 0 → ⊥) → false ≡ record_ok u s f n
-  unused-no no_way = by-test (record_ok u s f n) (λ r. let x = unused-says r in absurd (no_way x.0 x.1 x.2)) (λ r. sym r)
-
-  pub unused-last : s ≡ 0 → f ≡ 0 → eqb n 0 ≡ record_ok u s f n
-  unused-last a b =
-      by-dec (ℕ_discrete n 0)
-      (λ z. eq-eqb n 0 z ∙ unused-yes a b z)
-      (λ nz. ne_eqb n 0 nz ∙ unused-no (λ x y z. nz z))
+  pub unused-test : (eqb s 0 && eqb f 0 && eqb n 0) ≡ record_ok u s f n
+  unfolding record_ok
+  unused-test = rw t (and_assoc (eqb s 0) (eqb f 0) (eqb n 0))
 
 -- the same record in a place that is used as before
 fits-same : (c d : List ℕ) (j : ℕ) → used (removals d) j ≡ used (removals c) j → SamePlace c d j → record_fits d j ≡ record_fits c j
@@ -362,6 +357,15 @@ says-lawful c s = true-and _ _ s.pool (true-and _ _ (le-leb _ _ s.mask) (at-all_
 
 pub lawful-no : (c : List ℕ) → (Sound c → ⊥) → false ≡ lawful_control c
 lawful-no c n = by-test (lawful_control c) (λ t. absurd (n (lawful-says c t))) (λ t. sym t)
+
+-- all numbers of a range pass
+pub all-of-range : (p : ℕ → Bool) (i n : ℕ) → list_all p (range_with_len i n) ≡ all_from n i p
+unfolding all_from
+all-of-range p i zero = refl
+all-of-range p i (suc n) =
+    by-test (p i)
+    (λ t. let e : i + 1 ≡ suc i = omega arith in let rest = all-of-range p (i + 1) n in rw (t, all_from, ← e) rest)
+    (λ f. rw (f, all_from))
 
 pub lawful-records : (c : List ℕ) → is_pool_size (pool_size c) ≡ true → open_mask c ≤ 15 → all_from 64 0 (record_fits c) ≡ lawful_control c
 unfolding lawful_control

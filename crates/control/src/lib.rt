@@ -8,7 +8,6 @@ ghost use Rattle.control.specs.Control.{control_buffer_words, log_places, all_op
 
 use blocks::LARGEST_POOL;
 use runs::{LAST_SPACE, PAGES, Page};
-use words::writes::fill;
 
 // Where F, C and the open mask stand.
 const POOL: usize = 0;
@@ -30,6 +29,7 @@ pub const WORDS: usize = 195;
 // The mask with all four spaces open.
 const ALL_OPEN: u32 = 15;
 
+// Stays: with `&[u32; WORDS]` in place of the clause on the length, tried here, each caller that has a slice needs a branch for another length, which cannot be taken.
 pub fn pool_size(control: &[u32]) -> u32
     requires { length control.now ≡ control_buffer_words }
     ensures { result ≡ pool_size control.now }
@@ -51,6 +51,7 @@ pub fn open_mask(control: &[u32]) -> u32
     control[MASK]
 }
 
+// Stays: a place of the log is a number with its bound as a clause. It is a record's number modulo 64, made where it is used: a type for it is no plainer.
 // The first word of place j.
 fn word_of_place(j: u32) -> usize
     requires { j < log_places }
@@ -90,6 +91,7 @@ pub fn record_count(control: &[u32], j: u32) -> u32
     control[at + 2]
 }
 
+// Stays: that a space is below 4 is a clause: each call has judged the number that it was given, and a type for it is no plainer.
 // The mask of space s alone.
 fn bit_of(s: u32) -> u32
     requires { s ≤ last_space }
@@ -113,13 +115,7 @@ pub fn is_open(mask: u32, s: u32) -> bool
 fn is_used(c: u32, j: u32) -> bool
     ensures { result ≡ used c j }
 {
-    if PLACES <= c {
-        return true;
-    }
-    if j < 1 {
-        return false;
-    }
-    j <= c
+    PLACES <= c || (1 <= j && j <= c)
 }
 
 // Whether a place may hold these three words. The sum of first page and page count may not fit a word, so it is not made.
@@ -127,21 +123,9 @@ fn record_ok(used: bool, space: u32, first: u32, count: u32) -> bool
     ensures { result ≡ record_ok used space first count }
 {
     if !used {
-        if space != 0 {
-            return false;
-        }
-        if first != 0 {
-            return false;
-        }
-        return count == 0;
+        return (space, first, count) == (0, 0, 0);
     }
-    if LAST_SPACE < space {
-        return false;
-    }
-    if count < 1 {
-        return false;
-    }
-    if PAGES < count {
+    if LAST_SPACE < space || count < 1 || PAGES < count {
         return false;
     }
     first <= PAGES - count
@@ -164,31 +148,11 @@ pub fn control_lawful(control: &[u32]) -> bool
     ensures { result ≡ lawful_control control.now }
 {
     let pool = pool_size(control);
-    if pool < 1 {
+    let mask = open_mask(control);
+    if pool < 1 || LARGEST_POOL < pool || ALL_OPEN < mask {
         return false;
     }
-    if LARGEST_POOL < pool {
-        return false;
-    }
-    if ALL_OPEN < open_mask(control) {
-        return false;
-    }
-    let mut j = 0;
-    while j < PLACES {
-        if !record_fits(control, j) {
-            return false;
-        }
-        j += 1;
-    }
-    true
-}
-
-// The number after m. A parameter is known to fit its type, where a word read from a buffer is not.
-fn next_number(m: u32) -> u32
-    requires { m ≡ largest_word → ⊥ }
-    ensures { result ≡ m + 1 }
-{
-    m + 1
+    (0..PLACES).all(|j| record_fits(control, j))
 }
 
 // Appends a removal record.
@@ -197,7 +161,7 @@ pub fn append(control: &mut [u32], space: u32, first: Page, count: u32)
     requires number_left { removals control.old ≡ largest_word → ⊥ }
     ensures { control.new ≡ appended control.old space first.0 count }
 {
-    let m = next_number(removal_count(control));
+    let m = removal_count(control) + 1;
     let at = word_of_place(m % PLACES);
     control[REMOVALS] = m;
     control[at] = space;
@@ -234,6 +198,6 @@ pub fn fresh_control(control: &mut [u32], pool: u32)
     requires { length control.old ≡ control_buffer_words }
     ensures { control.new ≡ fresh_control pool }
 {
-    fill(control, 0, WORDS, 0);
+    control.fill(0);
     control[POOL] = pool;
 }

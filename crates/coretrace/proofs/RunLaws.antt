@@ -121,14 +121,6 @@ module _ (T₀ T T' : Tables) (p p' : TwoUnits) (s r s' : State) (buffer buffer'
         so_far = went_on T₀ T T' p p' r s' buffer' lines lines' until-then turn b ready.lies.held g;
       }
 
--- the units after a turn beside them
-module _ (T₀ T : Tables) (p : TwoUnits) (s : State) (buffer lines : List ℕ) (renews : Bool) (t : Turning T₀ T (cond renews fresh_units p) s buffer lines) where
-  pub units-fresh : (u : TwoUnits) → u ≡ fresh_units → renews ≡ true → Turning T₀ T u s buffer lines
-  units-fresh u e b = subst (λ (q : TwoUnits). Turning T₀ T q s buffer lines) (ap (λ (x : Bool). cond x fresh_units p) b ∙ sym e) t
-
-  pub units-stay : renews ≡ false → Turning T₀ T p s buffer lines
-  units-stay b = subst (λ (q : TwoUnits). Turning T₀ T q s buffer lines) (ap (λ (x : Bool). cond x fresh_units p) b) t
-
 -- a line has room where the held ones are kept, and where they are written
 module _ (s : State) (buffer lines : List ℕ) (h : longest_line ≤ length lines) (k : s.held ≤ length lines) where
   fits_by : (w q : Bool) → leb longest_line (length lines - s.held) ≡ q → cond (w && q) s.held 0 + longest_line ≤ length lines
@@ -137,7 +129,6 @@ module _ (s : State) (buffer lines : List ℕ) (h : longest_line ≤ length line
   fits_by false q e = omega arith
 
   pub has_room : cond (keeps s buffer lines) s.held 0 + longest_line ≤ length lines
-  unfolding keeps
   has_room = fits_by (ltb 0 (standing (waiting s.window buffer))) (leb longest_line (length lines - s.held)) refl
 
 -- with the header before its lines

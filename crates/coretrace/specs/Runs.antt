@@ -8,7 +8,7 @@ use Rattle.recordcalls.specs.Steps.{fresh_units}
 use Rattle.trace.specs.Listing.{Listed, Listing}
 
 -- the held lines are kept where a whole record waits and its line, which has at most `longest_line` bytes, has room behind them
-unfoldable pub keeps : State → List ℕ → List ℕ → Bool
+abbrev pub keeps : State → List ℕ → List ℕ → Bool
 keeps s buffer lines = ltb 0 (standing (waiting s.window buffer)) && leb longest_line (length lines - s.held)
 
 -- There are bytes whose lines, from record 1 on, end with the first `held` bytes of `lines`, those still to be written. That `input` is what was read and `sent` what was written is not promised

@@ -1,21 +1,12 @@
 // Standard input by way of a buffer: reading on until a whole record waits.
 ghost use Rattle.std.specs.Prelude.{◌≡◌, ◌+◌, ◌-◌, ◌≤◌, ◌<◌, length, take, drop};
-ghost use Rattle.std.proofs.Math.Seq.{paste};
 ghost use Rattle.records.specs.Input.{waiting, standing};
 
 use records::Window;
 use std::io::Read;
 
-// Moves the bytes from `from` up to `to` to the front.
-fn shift(buffer: &mut [u8], from: usize, to: usize)
-    requires from_le_to { from ≤ to }
-    requires to_in_bounds { to ≤ length buffer.old }
-    ensures { buffer.new ≡ paste buffer.old 0 (drop from buffer.old) (to - from) }
-{
-    for i in 0..to - from {
-        buffer[i] = buffer[from + i];
-    }
-}
+// The bytes of the buffer that records are read into: the longest record has 65,537.
+pub const BUFFER: usize = 131072;
 
 // One read into the room behind the first `to` bytes; answers how many it gave, none where it fails.
 fn read_to<R: Read>(stdin: &mut R, buffer: &mut [u8], to: usize) -> usize
@@ -23,22 +14,19 @@ fn read_to<R: Read>(stdin: &mut R, buffer: &mut [u8], to: usize) -> usize
     ensures result_in_bounds { to + result ≤ length buffer.old }
     ensures buffer_unchanged { take to buffer.new ≡ take to buffer.old }
 {
-    match stdin.read(&mut buffer[to..]) {
-        Ok(got) => got,
-        Err(_) => 0,
-    }
+    stdin.read(&mut buffer[to..]).unwrap_or(0)
 }
 
 // Reads behind the first n bytes until a whole record stands at the front or a read gives nothing; answers how many bytes there are.
-fn read_on<R: Read>(stdin: &mut R, buffer: &mut [u8], n: usize) -> usize
-    requires in_bounds { 65537 ≤ length buffer.old }
+// Stays: how many reads there are shows only as they are made, so a `for` has no range to go over.
+fn read_on<R: Read>(stdin: &mut R, buffer: &mut [u8; BUFFER], n: usize) -> usize
     requires n_in_bounds { n ≤ length buffer.old }
     ensures lower_bound { n ≤ result }
     ensures upper_bound { result ≤ length buffer.old }
     ensures buffer_unchanged { take n buffer.new ≡ take n buffer.old }
 {
     let mut to = n;
-    while records::standing(&buffer[..to]) == 0 {
+    while records::standing(&buffer[..to]).is_none() {
         let got = read_to(stdin, buffer, to);
         if got == 0 {
             break;
@@ -49,8 +37,7 @@ fn read_on<R: Read>(stdin: &mut R, buffer: &mut [u8], n: usize) -> usize
 }
 
 // Where no whole record waits, moves what waits to the front and reads on.
-pub fn fill<R: Read>(stdin: &mut R, buffer: &mut [u8], w: Window) -> Window
-    requires in_bounds { 65537 ≤ length buffer.old }
+pub fn fill<R: Read>(stdin: &mut R, buffer: &mut [u8; BUFFER], w: Window) -> Window
     requires from_le_to { w.from ≤ w.to }
     requires to_in_bounds { w.to ≤ length buffer.old }
     ensures from_le_to_2 { result.from ≤ result.to }
@@ -61,7 +48,7 @@ pub fn fill<R: Read>(stdin: &mut R, buffer: &mut [u8], w: Window) -> Window
     if records::ready(buffer, w) {
         return w;
     }
-    shift(buffer, w.from, w.to);
+    buffer.copy_within(w.from..w.to, 0);
     let to = read_on(stdin, buffer, w.to - w.from);
     Window { from: 0, to }
 }

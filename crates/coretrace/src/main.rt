@@ -12,23 +12,24 @@ ghost use Rattle.trace.specs.Listing.{last};
 ghost use Rattle.trace.specs.Inner.{Lies, Ready};
 ghost use Rattle.coretrace.specs.Runs.{keeps, Ran, RanWhole};
 
+use crate::input::BUFFER;
 use records::{LONGEST_LINE, Window};
 use std::io::{Read, Write};
 use trace::State;
 
+// Stays: an array, and in `State` how many of its bytes are held, since there is no heap.
+// The bytes of the buffer that lines are held in.
+const LINES: usize = 65536;
+
 // The last number of 64 bits, which no run comes to.
-const LAST: u64 = 18446744073709551615;
+const LAST: u64 = u64::MAX;
 
 // Whether the held lines are kept: a whole record waits, and its line has room.
 fn keeps(s: State, buffer: &[u8], lines: &[u8]) -> bool
     requires { Lies s buffer.now lines.now }
     ensures { result ≡ keeps s buffer.now lines.now }
 {
-    let w = s.window;
-    if records::ready(buffer, w) {
-        return LONGEST_LINE <= lines.len() - s.held;
-    }
-    false
+    records::ready(buffer, s.window) && LONGEST_LINE <= lines.len() - s.held
 }
 
 // Gets the bytes of the next record, behind those that wait. Where none is ready, `fill` reads and may wait: the lines go out before.
@@ -36,12 +37,10 @@ fn ahead<R: Read, W: Write>(
     s: State,
     stdin: &mut R,
     stdout: &mut W,
-    buffer: &mut [u8],
-    lines: &[u8],
+    buffer: &mut [u8; BUFFER],
+    lines: &[u8; LINES],
 ) -> State
     requires lies { Lies s buffer.old lines.now }
-    requires in_bounds { 65537 ≤ length buffer.old }
-    requires longest_line_in_bounds { longest_line ≤ length lines.now }
     requires number_lt_last { s.number < last }
     ensures ready { Ready result buffer.new lines.now }
     ensures number_value { result.number ≡ s.number }
@@ -49,14 +48,8 @@ fn ahead<R: Read, W: Write>(
     ensures buffer_after { take (s.window.to - s.window.from) (waiting result.window buffer.new) ≡ waiting s.window buffer.old }
 {
     let held = output::settle(stdout, keeps(s, buffer, lines), lines, s.held);
-    let w = s.window;
-    let window = input::fill(stdin, buffer, w);
-    State {
-        number: s.number,
-        window,
-        held,
-        goes: s.goes,
-    }
+    let window = input::fill(stdin, buffer, s.window);
+    State { window, held, ..s }
 }
 
 // Answers the records; returns how many first bytes of `lines` are still to be written.
@@ -67,11 +60,9 @@ fn run<R: Read, W: Write>(
     frames: &mut [u32],
     pages: &mut [u32],
     ranges: &mut [u32],
-    buffer: &mut [u8],
-    lines: &mut [u8],
+    buffer: &mut [u8; BUFFER],
+    lines: &mut [u8; LINES],
 ) -> usize
-    requires in_bounds { 65537 ≤ length buffer.old }
-    requires longest_line_in_bounds { longest_line ≤ length lines.old }
     ensures upper_bound { result ≤ length lines.old }
     ensures ran { Ran (tables control.old frames.old pages.old ranges.old) lines.new result }
 {
@@ -82,25 +73,12 @@ fn run<R: Read, W: Write>(
         held: 0,
         goes: true,
     };
+    // Stays: a turn counts the number itself (`Turned`), so a `for` over the numbers would count them twice.
     while s.number < LAST {
         s = ahead(s, stdin, stdout, buffer, lines);
-        let w = s.window;
-        let next = records::fetch(buffer, w);
-        if trace::wants_unit(next) {
-            let a = trace::step_on(
-                s, next, units, control, frames, pages, ranges, buffer, lines,
-            );
-            s = a.state;
-            units = a.units;
-            continue;
-        }
-        let a = trace::step_beside(s, next, control, frames, pages, ranges, buffer, lines);
-        s = a.state;
+        s = trace::step(s, &mut units, control, frames, pages, ranges, buffer, lines);
         if !s.goes {
             break;
-        }
-        if a.renews {
-            units = recordcalls::fresh_units();
         }
     }
     s.held
@@ -110,11 +88,9 @@ fn run<R: Read, W: Write>(
 fn list<R: Read, W: Write>(
     stdin: &mut R,
     stdout: &mut W,
-    buffer: &mut [u8],
-    lines: &mut [u8],
+    buffer: &mut [u8; BUFFER],
+    lines: &mut [u8; LINES],
 ) -> usize
-    requires in_bounds { 65537 ≤ length buffer.old }
-    requires longest_line_in_bounds { longest_line ≤ length lines.old }
     ensures upper_bound { result ≤ length lines.old }
     ensures ran_whole { RanWhole lines.new result }
 {
@@ -138,8 +114,8 @@ fn list<R: Read, W: Write>(
 fn main(rt: HostRuntime) {
     let mut stdin = rt.stdin();
     let mut stdout = rt.stdout();
-    let mut buffer = [0u8; 131072];
-    let mut lines = [0u8; 65536];
+    let mut buffer = [0u8; BUFFER];
+    let mut lines = [0u8; LINES];
     let held = list(&mut stdin, &mut stdout, &mut buffer, &mut lines);
     output::send(&mut stdout, &lines, held);
 }

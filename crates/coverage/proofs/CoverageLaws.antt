@@ -1,6 +1,7 @@
 -- Counts of a space's pages, room for the next quotient, and what coverage promises.
-use mathlib.Core.Path.{◌≡◌, refl, ap, ◌∙◌}
-use mathlib.Core.Bool.{Bool, true, ◌&&◌}
+use mathlib.Core.Path.{◌≡◌, refl, ap, ◌∙◌, sym}
+use mir.Val.{bool_byte}
+use mathlib.Core.Bool.{Bool, true, false, ◌&&◌}
 use mathlib.Core.List.{List}
 use Prim.Native.Nat.{ℕ, zero, suc, ◌+◌, ◌-◌, ◌*◌, ◌/◌, ◌%◌, ◌<◌, ◌≤◌}
 use native.Mathlib.Numerals.{add-one}
@@ -11,12 +12,11 @@ use lib.ListN.{get_or, take, drop}
 use borrow.Author.Tests.{not-false, ltb-false}
 use Rattle.words.specs.Counts.{count, one-if}
 use Rattle.words.specs.Searches.{any_from}
-use Rattle.words.specs.declared.Outcome.{Outcome}
 use Rattle.words.specs.Refusals.{NoneApplies, done, next}
-use Rattle.words.specs.Rows.{refusal, values, number_of, after}
+use Rattle.words.specs.Rows.{values, number_of, after}
 use Rattle.words.specs.Tables.{part}
 use Rattle.words.proofs.Cases.{by-dec}
-use Rattle.words.proofs.CountLaws.{one-if-le}
+use Rattle.words.proofs.CountLaws.{one-if-le, count-le}
 use Rattle.words.proofs.SearchLaws.{any_at}
 use Rattle.runs.specs.PageWords.{mapped, range_bit}
 use Rattle.layout.specs.declared.TableCall.TheVariants.{Coverage}
@@ -29,21 +29,27 @@ use Rattle.coverage.specs.Inner.{page_in_range}
 
 -- counts over a space's words, one word more
 
-pub at_most_one : (b : Bool) (x : ℕ) → x ≡ one-if b → x ≤ 1
-at_most_one b x e = rw e (one-if-le b)
-
 pub count-nothing : (p : ℕ → Bool) → 0 ≡ count 0 p
 unfolding count
 count-nothing p = refl
 
-module _ (ws : List ℕ) (k n x : ℕ) where
-  pub mapped-more : n ≡ count k (page_mapped ws) → x ≡ one-if (mapped (get_or ws k 0)) → n + x ≡ count (k + 1) (page_mapped ws)
-  unfolding count page_mapped
-  mapped-more e d = rw (add-one k, d, e) refl
+bit : (b : Bool) → bool_byte b ≡ one-if b
+unfolding one-if
+bit true = refl
+bit false = refl
 
-  pub in-range-more : n ≡ count k (page_in_range ws) → x ≡ one-if (mapped (get_or ws k 0) && range_bit (get_or ws k 0)) → n + x ≡ count (k + 1) (page_in_range ws)
+module _ (ws : List ℕ) (k n x : ℕ) (b : Bool) (xb : x ≡ bool_byte b) where
+  pub mapped-more : n ≡ count k (page_mapped ws) → b ≡ mapped (get_or ws k 0) → n + x ≡ count (k + 1) (page_mapped ws)
+  unfolding count page_mapped
+  mapped-more e d = rw (add-one k, sym d, e, xb, bit b) refl
+
+  pub in-range-more : n ≡ count k (page_in_range ws) → b ≡ (mapped (get_or ws k 0) && range_bit (get_or ws k 0)) → n + x ≡ count (k + 1) (page_in_range ws)
   unfolding count page_in_range
-  in-range-more e d = rw (add-one k, d, e) refl
+  in-range-more e d = rw (add-one k, sym d, e, xb, bit b) refl
+
+-- a count has room for one more
+pub one-more : (n k x : ℕ) (p : ℕ → Bool) (b : Bool) → n ≡ count k p → x ≡ bool_byte b → n + x ≤ k + 1
+one-more n k x p b e xb = omega (arith, e, xb, bit b, one-if-le b, count-le k p)
 
 -- where a page is mapped, the count of mapped pages is not 0
 
@@ -85,8 +91,8 @@ unfolding row after sized_row
 coverage-facts T s (next a (next b (next c (next d (next e done))))) =
     record { lengths = not-false _ a; space = ltb-false 3 s c; some = ap (any_from 1024 0) (lent-mapped T s (1024 * s) (1024 * s + 1024) refl refl) ∙ not-false _ e }
 
-pub coverage-done : (T : Tables) (s : ℕ) (o x : Outcome) → o ≡ refusal (number_of (row T (Coverage s))) → x ≡ o → x.number ≡ 0 → (m : ℕ)
+pub coverage-done : (T : Tables) (s : ℕ) → 0 ≡ number_of (row T (Coverage s)) → (m : ℕ)
     → m ≡ coverage_figure (count 1024 (page_in_range (take ((1024 * s + 1024) - 1024 * s) (drop (1024 * s) T.pages)))) (count 1024 (page_mapped (take ((1024 * s + 1024) - 1024 * s) (drop (1024 * s) T.pages))))
     → Called (Coverage s) T (values m 0) T
 unfolding row after sized_row coverage
-coverage-done T s o x oe xe z m me = rw (me, lent-mapped T s (1024 * s) (1024 * s + 1024) refl refl, lent-ranges T s) (call-done (Coverage s) T o x oe xe z T refl)
+coverage-done T s e m me = rw (me, lent-mapped T s (1024 * s) (1024 * s + 1024) refl refl, lent-ranges T s) (call-done (Coverage s) T e T refl)

@@ -3,59 +3,44 @@
 
 ghost use Rattle.std.specs.Prelude.{◌≡◌, true, ◌&&◌, ◌<◌, length};
 ghost use Rattle.runs.specs.PageWords.{pages_in_space, mapped, range_bit};
-ghost use Rattle.words.specs.Counts.{count, one-if};
+ghost use Rattle.words.specs.Counts.{count};
 ghost use Rattle.words.specs.Searches.{any_from};
-ghost use Rattle.words.specs.Rows.{refusal, number_of};
+ghost use Rattle.words.specs.Rows.{number_of};
 ghost use Rattle.layout.specs.declared.TableCall.TheVariants.{Coverage};
-ghost use Rattle.layout.specs.Answers.{outcome};
-ghost use Rattle.layout.specs.Tables.{tables};
+ghost use Rattle.words.specs.Answers.{judged, outcome};
+ghost use Rattle.layout.specs.Lent.{read};
 ghost use Rattle.layout.specs.Calls.{row, Called, nearest_whole, coverage_figure};
 ghost use Rattle.tablecheck.specs.Inner.{page_mapped};
 ghost use Rattle.coverage.specs.Inner.{page_in_range};
 
-use layout::Answer;
-use ranges::page_words::{mapped, one_if_mapped, range_bit};
-use refusals::{judge_shared, outcome};
+use layout::Lent;
+use ranges::page_words::{mapped, range_bit};
+use refusals::judge_shared;
 use runs::{PAGE_WORDS, PAGES};
 use tablecheck::any_mapped;
+use words::answers::{Answer, Refused, Values};
 
 // The figure where every mapped page lies in a range.
 const FULL_COVERAGE: u32 = 10000;
 
-// The first refusal that applies, or Done with zeros.
-fn judge_coverage(
-    control: &[u32],
-    frames: &[u32],
-    pages: &[u32],
-    ranges: &[u32],
-    space: u32,
-) -> Answer
-    ensures { outcome result ≡ refusal (number_of (row (tables control.now frames.now pages.now ranges.now) (Coverage space))) }
+// The first refusal that applies, if one does.
+fn judge_coverage(lent: Lent, space: u32) -> Result<(), Refused>
+    ensures { judged result ≡ number_of (row (read lent.entry) (Coverage space)) }
 {
-    let judged = judge_shared(control, frames, pages, ranges, space, 0, PAGES, 0);
-    let o = outcome(judged);
-    if o.number != 0 {
-        return judged;
-    }
+    judge_shared(lent, space, 0, PAGES, 0)?;
     let a = PAGE_WORDS * (space as usize);
     let e = a + PAGE_WORDS;
-    if !any_mapped(&pages[a..e], 0, PAGES) {
-        return Answer::NotMapped;
+    if !any_mapped(&lent.pages[a..e], 0, PAGES) {
+        return Err(Refused::NotMapped);
     }
-    judged
+    Ok(())
 }
 
-// 1 for the word of a page in a range, 0 for any other.
-fn one_if_in_range(w: u32) -> u32
-    ensures { result ≡ one-if (mapped w && range_bit w) }
+// Whether it is the word of a page in a range.
+fn in_range(w: u32) -> bool
+    ensures { result ≡ (mapped w && range_bit w) }
 {
-    if !mapped(w) {
-        return 0;
-    }
-    if range_bit(w) {
-        return 1;
-    }
-    0
+    mapped(w) && range_bit(w)
 }
 
 // Pages of a space: the mapped ones, and those of them that lie in ranges.
@@ -65,6 +50,7 @@ struct Counted {
     within: u32,
 }
 
+// Stays: a space's words are a part of the lent buffer, with their length as a clause, as in ranges.
 // Counts both in one pass. The caller lends the space's 1,024 page words.
 fn count_pages(part: &[u32]) -> Counted
     requires { length part.now ≡ pages_in_space }
@@ -73,12 +59,9 @@ fn count_pages(part: &[u32]) -> Counted
 {
     let mut n: u32 = 0;
     let mut m: u32 = 0;
-    let mut p = 0;
-    while p < PAGE_WORDS {
-        let w = part[p];
-        n += one_if_mapped(w);
-        m += one_if_in_range(w);
-        p += 1;
+    for w in part {
+        n += u32::from(mapped(*w));
+        m += u32::from(in_range(*w));
     }
     Counted {
         mapped: n,
@@ -114,24 +97,11 @@ fn figure(part: &[u32]) -> u32
 }
 
 // Of a space's mapped pages, how many in 10,000 lie in ranges, to the nearest whole figure, an exact half to the even one. Refused: 1, 2, 5, 10, 12.
-pub fn coverage(
-    control: &[u32],
-    frames: &[u32],
-    pages: &[u32],
-    ranges: &[u32],
-    space: u32,
-) -> Answer
-    ensures { Called (Coverage space) (tables control.now frames.now pages.now ranges.now) (outcome result) (tables control.now frames.now pages.now ranges.now) }
+pub fn coverage(lent: Lent, space: u32) -> Answer
+    ensures { Called (Coverage space) (read lent.entry) (outcome result) (read lent.entry) }
 {
-    let judged = judge_coverage(control, frames, pages, ranges, space);
-    let o = outcome(judged);
-    if o.number != 0 {
-        return judged;
-    }
+    judge_coverage(lent, space)?;
     let a = PAGE_WORDS * (space as usize);
     let e = a + PAGE_WORDS;
-    Answer::Done {
-        first: figure(&pages[a..e]),
-        second: 0,
-    }
+    Ok(Values::from(figure(&lent.pages[a..e])))
 }

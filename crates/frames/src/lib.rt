@@ -4,180 +4,119 @@
 
 pub mod unchecked;
 
-ghost use Rattle.std.specs.Prelude.{◌≡◌, []};
+ghost use Rattle.std.specs.Prelude.{◌≡◌, [], ◌∷◌};
+ghost use Rattle.words.specs.Answers.{outcome, judged};
+ghost use Rattle.words.specs.Refusals.{decide};
 ghost use Rattle.blocks.specs.declared.PoolCall.TheVariants.{SetUp, Check, Count, Allocate, Free};
 ghost use Rattle.blocks.specs.FrameWords.{is_pool_size};
-ghost use Rattle.blocks.specs.Calls.{outcome, lent, in_owners, Called};
+ghost use Rattle.blocks.specs.Calls.{lent, in_owners, wrong_length, wrong_pool_size, judged as buffer_refusals, Called};
 
-use blocks::{BUFFER_WORDS, Frame, LARGEST_POOL, Reply};
+use blocks::{BUFFER_WORDS, Frame, LARGEST_OWNER, LARGEST_POOL};
 use framewords::owners::{all_held, any_held, count_free};
 use merging::{fresh, lawful, release};
 use splitting::take_frames;
-use words::Outcome;
-
-// The number, first and second value of an answer.
-pub fn outcome(r: Reply) -> Outcome
-    ensures { result ≡ outcome r }
-{
-    match r {
-        Reply::Done(v) => Outcome {
-            number: 0,
-            first: v,
-            second: 0,
-        },
-        Reply::WrongLength => Outcome {
-            number: 1,
-            first: 0,
-            second: 0,
-        },
-        Reply::Unlawful => Outcome {
-            number: 2,
-            first: 0,
-            second: 0,
-        },
-        Reply::WrongPoolSize => Outcome {
-            number: 4,
-            first: 0,
-            second: 0,
-        },
-        Reply::WrongSpan => Outcome {
-            number: 8,
-            first: 0,
-            second: 0,
-        },
-        Reply::AlreadyHeld => Outcome {
-            number: 11,
-            first: 0,
-            second: 0,
-        },
-        Reply::NotHeld => Outcome {
-            number: 12,
-            first: 0,
-            second: 0,
-        },
-        Reply::TooFewFrames => Outcome {
-            number: 14,
-            first: 0,
-            second: 0,
-        },
-    }
-}
+pub use words::answers::outcome;
+use words::answers::{Answer, Refused, Values};
 
 fn is_pool_size(pool: u32) -> bool
     ensures { result ≡ is_pool_size pool }
 {
-    if pool < 1 {
-        return false;
-    }
-    pool <= LARGEST_POOL
+    1 <= pool && pool <= LARGEST_POOL
 }
 
 // Whether the n owners from `owner` on are at least one, and all from 1 to 4,096.
 fn in_owners(owner: u32, n: usize) -> bool
     ensures { result ≡ in_owners owner n }
 {
-    if n < 1 {
+    let last = LARGEST_OWNER as usize;
+    if n < 1 || owner < 1 || last < n {
         return false;
     }
-    if owner < 1 {
-        return false;
+    owner as usize + n <= last + 1
+}
+
+// The judgement of the sizes, with which every call begins.
+fn judge_sizes(frames: &[u32], pool: u32) -> Result<(), Refused>
+    ensures { judged result ≡ decide (wrong_length frames.now ∷ wrong_pool_size pool ∷ []) 0 }
+{
+    if frames.len() != BUFFER_WORDS {
+        return Err(Refused::WrongLength);
     }
-    if 4096 < n {
-        return false;
+    if !is_pool_size(pool) {
+        return Err(Refused::WrongPoolSize);
     }
-    owner as usize + n <= 4097
+    Ok(())
+}
+
+// The judgement of the buffer, with which every call but set up begins.
+fn judge(frames: &[u32], pool: u32) -> Result<(), Refused>
+    ensures { judged result ≡ decide (buffer_refusals pool frames.now []) 0 }
+{
+    judge_sizes(frames, pool)?;
+    if !lawful(frames, pool) {
+        return Err(Refused::Unsound);
+    }
+    Ok(())
 }
 
 // Sets up the words of a pool whose `pool` frames are all free. Refused: 1, 4.
-pub fn set_up(frames: &mut [u32], pool: u32) -> Reply
+pub fn set_up(frames: &mut [u32], pool: u32) -> Answer
     ensures { Called (SetUp pool) (lent frames.old []) (outcome result) (lent frames.new []) }
 {
-    if frames.len() != BUFFER_WORDS {
-        return Reply::WrongLength;
-    }
-    let size = is_pool_size(pool);
-    if !size {
-        return Reply::WrongPoolSize;
-    }
+    judge_sizes(frames, pool)?;
     fresh(frames, pool);
-    Reply::Done(0)
+    Ok(Values::from(0))
 }
 
 // Whether the words are lawful for a pool of `pool` frames. Refused: 1, 2, 4.
-pub fn check(frames: &[u32], pool: u32) -> Reply
+pub fn check(frames: &[u32], pool: u32) -> Answer
     ensures { Called (Check pool) (lent frames.now []) (outcome result) (lent frames.now []) }
 {
-    if frames.len() != BUFFER_WORDS {
-        return Reply::WrongLength;
-    }
-    let size = is_pool_size(pool);
-    if !size {
-        return Reply::WrongPoolSize;
-    }
-    let good = lawful(frames, pool);
-    if !good {
-        return Reply::Unlawful;
-    }
-    Reply::Done(0)
+    judge(frames, pool)?;
+    Ok(Values::from(0))
 }
 
 // How many frames are free, counted singly. Refused: 1, 2, 4.
-pub fn count(frames: &[u32], pool: u32) -> Reply
+pub fn count(frames: &[u32], pool: u32) -> Answer
     ensures { Called (Count pool) (lent frames.now []) (outcome result) (lent frames.now []) }
 {
-    let judged = check(frames, pool);
-    let o = outcome(judged);
-    if o.number != 0 {
-        return judged;
-    }
-    Reply::Done(count_free(frames, pool))
+    judge(frames, pool)?;
+    Ok(Values::from(count_free(frames, pool)))
 }
 
 // Takes out.len() frames for the owners from `owner` on, by the map rule with this wish: their numbers into `out`, in page order. A wish that names no frame of the pool is none.
 // The value is the number of blocks. Refused: 1, 2, 4, 8, 11, 14.
-pub fn allocate(frames: &mut [u32], pool: u32, owner: u32, wish: u32, out: &mut [u32]) -> Reply
+pub fn allocate(frames: &mut [u32], pool: u32, owner: u32, wish: u32, out: &mut [u32]) -> Answer
     ensures { Called (Allocate pool owner wish) (lent frames.old out.old) (outcome result) (lent frames.new out.new) }
 {
-    let judged = check(frames, pool);
-    let o = outcome(judged);
-    if o.number != 0 {
-        return judged;
-    }
+    judge(frames, pool)?;
     let n = out.len();
-    let fits = in_owners(owner, n);
-    if !fits {
-        return Reply::WrongSpan;
+    if !in_owners(owner, n) {
+        return Err(Refused::WrongSpan);
     }
-    let held = any_held(frames, pool, owner, n as u32);
-    if held {
-        return Reply::AlreadyHeld;
+    if any_held(frames, pool, owner, n as u32) {
+        return Err(Refused::AlreadyMapped);
     }
-    let free = count_free(frames, pool);
-    if free < n as u32 {
-        return Reply::TooFewFrames;
+    if count_free(frames, pool) < n as u32 {
+        return Err(Refused::TooFewFrames);
     }
-    Reply::Done(take_frames(frames, pool, owner, Frame(wish), out))
+    let blocks = take_frames(frames, pool, owner, Frame(wish), out);
+    Ok(Values::from(blocks))
 }
 
 // Frees every frame of the n owners from `owner` on. The value is the number of frames that became free. Refused: 1, 2, 4, 8, 12.
-pub fn free(frames: &mut [u32], pool: u32, owner: u32, n: u32) -> Reply
+pub fn free(frames: &mut [u32], pool: u32, owner: u32, n: u32) -> Answer
     ensures { Called (Free pool owner n) (lent frames.old []) (outcome result) (lent frames.new []) }
 {
-    let judged = check(frames, pool);
-    let o = outcome(judged);
-    if o.number != 0 {
-        return judged;
+    judge(frames, pool)?;
+    if !in_owners(owner, n as usize) {
+        return Err(Refused::WrongSpan);
     }
-    let fits = in_owners(owner, n as usize);
-    if !fits {
-        return Reply::WrongSpan;
-    }
-    let held = all_held(frames, pool, owner, n);
-    if !held {
-        return Reply::NotHeld;
+    if !all_held(frames, pool, owner, n) {
+        return Err(Refused::NotMapped);
     }
     let before = count_free(frames, pool);
     release(frames, pool, owner, n);
     let after = count_free(frames, pool);
-    Reply::Done(after - before)
+    Ok(Values::from(after - before))
 }

@@ -1,25 +1,25 @@
 -- Entries that are kept or dropped one after the other.
 use mathlib.Core.Path.{◌≡◌, refl, ap, ◌∙◌, sym}
-use mathlib.Core.Bool.{true, false}
-use mathlib.Core.List.{List}
-use Prim.Native.Nat.{ℕ, ◌+◌, ◌≤◌, ◌<◌}
+use mathlib.Core.Bool.{Bool, true, false}
+use mathlib.Core.List.{List, [], ◌∷◌}
+use Prim.Native.Nat.{ℕ, suc, ◌+◌, ◌≤◌, ◌<◌}
 use native.Mathlib.Nat.{zero-add}
 use native.Mathlib.Decide.{dec_lt, ℕ_discrete}
 use native.Mathlib.Omega.{arith}
 use lib.Dec.{ltb}
 use lib.ListN.{length, get_or, set, length-set}
+use Rattle.std.specs.List.{list_all, enumerate_from}
+use Rattle.words.specs.Searches.{every}
 use lib.Seq.{get_or-set_same, get_or-set_other}
 use borrow.Author.Tests.{lt-ltb, le-ltb}
 use Rattle.words.specs.Tables.{imap}
-use Rattle.words.proofs.Cases.{by-dec}
+use Rattle.words.proofs.Cases.{by-dec, by-test}
 use Rattle.words.proofs.TableLaws.{beyond, length-imap, get_or-imap, is-imap}
-use Rattle.history.specs.declared.PageEntry.{PageEntry}
 use Rattle.history.specs.declared.RangeEntry.{RangeEntry}
-use Rattle.history.specs.declared.Unit.{Unit as TlbUnit}
 use Rattle.history.specs.declared.Removal.{Removal}
 use Rattle.history.specs.Units.{no_range}
 use Rattle.history.specs.CatchUp.{overlaps, keep_last}
-use Rattle.invalidation.specs.Entries.{with_pages, with_ranges}
+use Rattle.invalidation.specs.Entries.{kept}
 
 -- f of the entry at place k, where that is one of the first n places
 unfoldable pub changed_below : {A : Type 0} → (A → A) → ℕ → ℕ → A → A
@@ -68,14 +68,29 @@ module _ {A : Type 0} (f : A → A) (l : List A) (d : A) where
   all_changed n h =
       is-imap (λ k e. f e) l (changed_to f n l) d d (length-changed n) (λ k hk. changed-at n k hk ∙ changed-below f n k _ (omega arith))
 
--- one entry more
-pub next-page : (f : PageEntry → PageEntry) (u v : TlbUnit) (n : ℕ) (e d : PageEntry) → v ≡ with_pages u (changed_to f n u.pages) → n < length u.pages → e ≡ f (get_or u.pages n d)
-    → with_pages v (set v.pages n e) ≡ with_pages u (changed_to f (n + 1) u.pages)
-next-page f u v n e d sofar h is = rw (sofar, is) (ap (with_pages u) (one-changed f u.pages d n h))
+-- the entry at place n, which is emptied where it passes
+module _ {A : Type 0} (p : A → Bool) (z : A) (l now : List A) (n : ℕ) (x : A) (sofar : now ≡ changed_to (kept p z) n l) (here : n < length l) where
+  same-there : get_or now n x ≡ get_or l n x
+  same-there = rw sofar (changed-at (kept p z) l x n n here ∙ changed-beyond (kept p z) n n (get_or l n x) (omega arith))
 
-pub next-range : (f : RangeEntry → RangeEntry) (u v : TlbUnit) (n : ℕ) (e d : RangeEntry) → v ≡ with_ranges u (changed_to f n u.ranges) → n < length u.ranges → e ≡ f (get_or u.ranges n d)
-    → with_ranges v (set v.ranges n e) ≡ with_ranges u (changed_to f (n + 1) u.ranges)
-next-range f u v n e d sofar h is = rw (sofar, is) (ap (with_ranges u) (one-changed f u.ranges d n h))
+  step : (y : A) → kept p z (get_or l n x) ≡ y → set now n y ≡ changed_to (kept p z) (n + 1) l
+  step y is = rw (sofar, sym is) (one-changed (kept p z) l x n here)
+
+  pub one-emptied : p (get_or now n x) ≡ true → set now n z ≡ changed_to (kept p z) (n + 1) l
+  one-emptied t = let t = rw same-there at t in step z (rw (t, kept) refl)
+
+  pub one-kept : p (get_or now n x) ≡ false → set now n (get_or now n x) ≡ changed_to (kept p z) (n + 1) l
+  one-kept t =
+      let t = rw same-there at t in
+      rw same-there (step (get_or l n x) (rw (t, kept) refl))
+
+-- the library's `all` over entries with their places
+pub all-every : {A : Type 0} (f : ℕ → A → Bool) (n : ℕ) (l : List A) → list_all (λ x. f x.0 x.1) (enumerate_from n l) ≡ every f n l
+unfolding every
+all-every f n [] = refl
+all-every f n (x ∷ xs) =
+    let next : n + 1 ≡ suc n = omega arith in
+    by-test (f n x) (λ t. rw (t, every, next) (all-every f (suc n) xs)) (λ t. rw (t, every) refl)
 
 -- no entry overlaps a record where none stands
 no-range-overlaps : (d : Removal) → overlaps d no_range ≡ false
@@ -89,10 +104,6 @@ module _ (d : Removal) (rs : List RangeEntry) (k : ℕ) where
   last-beyond h =
       let none : overlaps d (get_or rs k no_range) ≡ false = rw (beyond rs k no_range (λ lt. omega arith)) (no-range-overlaps d) in
       rw (none, keep_last)
-
-  pub last-dropped : overlaps d (get_or rs k no_range) ≡ true → 32 ≡ keep_last d rs k
-  unfolding keep_last
-  last-dropped t = rw (t, keep_last)
 
   pub last-kept : overlaps d (get_or rs k no_range) ≡ false → k ≡ keep_last d rs k
   unfolding keep_last

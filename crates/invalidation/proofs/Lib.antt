@@ -1,3 +1,2 @@
-pub mod FrameLaws
 pub mod KeepLaws
 pub mod RecordLaws

@@ -1,25 +1,14 @@
 -- Unseen removal records, one after the other.
-use mathlib.Core.Path.{◌≡◌, refl}
+use mathlib.Core.Path.{◌≡◌}
 use mathlib.Core.Bool.{true, false}
 use mathlib.Core.List.{List}
-use Prim.Native.Nat.{ℕ, suc, ◌+◌, ◌-◌, ◌%◌, ◌≤◌, ◌<◌}
-use native.Mathlib.Nat.{mod-lt}
+use Prim.Native.Nat.{ℕ, suc, ◌+◌, ◌-◌, ◌≤◌, ◌<◌}
 use native.Mathlib.Omega.{arith}
 use borrow.Author.Tests.{lt-ltb, le-ltb}
-use Rattle.control.specs.Control.{removals, record_fits, lawful_control}
-use Rattle.layout.proofs.Published.{lawful-says, used-exactly, used-says}
+use Rattle.control.specs.Control.{removals}
 use Rattle.history.specs.declared.Unit.{Unit as TlbUnit}
 use Rattle.history.specs.Units.{emptied}
 use Rattle.history.specs.CatchUp.{removal_at, dropped, applied, seen_all, most_unseen, too_far_behind, caught_up}
-
--- a record of a lawful control buffer ends by page 1,023
-pub record-ends : (c : List ℕ) (m : ℕ) → lawful_control c ≡ true → 1 ≤ m → m ≤ removals c → (removal_at c m).first + (removal_at c m).count ≤ 1024
-unfolding removal_at record_fits
-record-ends c m t lo hi =
-    let j : m % 64 < 64 = mod-lt m (omega arith) in
-    (used-says _ _ _ _
-    ((used-exactly (removals c) (m % 64) j).1 (record { number = m; low = lo; high = hi; there = refl }))
-    ((lawful-says c t).fits (m % 64) j)).2
 
 -- record m + 1 is applied, and those up to C are left
 pub applied-step : (c : List ℕ) (C m : ℕ) (u : TlbUnit) → m < C → applied c (C - m) (m + 1) u ≡ applied c (C - (m + 1)) (m + 1 + 1) (dropped (removal_at c (m + 1)) u)

@@ -2,7 +2,10 @@
 #![tactic(auto)]
 
 mod catch_up;
+mod entry;
 mod formed;
+mod page_entries;
+mod range_entries;
 
 pub use crate::catch_up::{caught_up, emptied};
 pub use crate::formed::unit_ok;

@@ -5,6 +5,10 @@ use Prim.Native.Nat.{ℕ}
 use native.Mathlib.Omega.{arith}
 use borrow.Author.Tests.{eqb-true, eqb-false}
 use Rattle.words.specs.declared.Outcome.{Outcome}
+use Rattle.words.specs.declared.answers.Refused.{Refused}
+use Rattle.words.specs.Answers.{number, outcome}
+use Rattle.std.specs.Prelude.{Result, IsErr, IsErrAnd}
+use Rattle.words.specs.declared.answers.Values.{Values}
 use Rattle.words.specs.Rows.{refusal, values, accepted, number_of, after}
 use Rattle.words.proofs.Cases.{by-test}
 use Rattle.words.proofs.RowLaws.{promised-number, refused-is, accepted-is, refused-zeros, refused-leaves}
@@ -43,11 +47,11 @@ module _ (s first n rights : ℕ) (T : Tables) where
   same_number = refl
 
   module _ (M T' : Tables) (a o : Outcome) (d : Called (Map s first n rights) T a M) (e : Called (Preview s first n rights) T o T') where
-    number : number_of (row T (Preview s first n rights)) ≡ a.number
-    number = same_number ∙ sym (promised-number _ _ _ _ d)
+    map-number : number_of (row T (Preview s first n rights)) ≡ a.number
+    map-number = same_number ∙ sym (promised-number _ _ _ _ d)
 
     same-refusal : accepted a ≡ false → o ≡ a
-    same-refusal f = e.answers ∙ refused-is _ (λ z. eqb-false _ _ f (sym number ∙ z)) ∙ ap refusal number ∙ sym (refused-zeros _ _ _ _ d f)
+    same-refusal f = e.answers ∙ refused-is _ (λ z. eqb-false _ _ f (sym map-number ∙ z)) ∙ ap refusal map-number ∙ sym (refused-zeros _ _ _ _ d f)
 
     same-values : accepted a ≡ true → o ≡ values a.first (range_count_in M s)
     unfolding row after sized_row
@@ -55,7 +59,7 @@ module _ (s first n rights : ℕ) (T : Tables) where
         let z = eqb-true _ _ t in
         let taken : a.first ≡ (row T (Map s first n rights)).first = ap (λ (x : Outcome). x.first) (d.answers ∙ accepted-is _ (sym (promised-number _ _ _ _ d) ∙ z)) in
         let afterwards : range_count_in M s ≡ range_count_in (row T (Map s first n rights)).new s = ap (λ (N : Tables). range_count_in N s) (call-is (Map s first n rights) T a M d t) in
-        e.answers ∙ accepted-is _ (number ∙ z) ∙ ap₂ values (sym taken) (omega (arith, afterwards))
+        e.answers ∙ accepted-is _ (map-number ∙ z) ∙ ap₂ values (sym taken) (omega (arith, afterwards))
 
     nothing_written : T' ≡ T
     unfolding row after sized_row
@@ -76,23 +80,19 @@ module _ (s first n rights : ℕ) (T : Tables) where
           same = nothing_written;
         }
 
-  -- o is the outcome of what the judge of map answered, x the same
-  module _ (o x : Outcome) (oe : o ≡ refusal (number_of (row T (Map s first n rights)))) (xe : x ≡ o) where
-    judged : o ≡ refusal (number_of (row T (Preview s first n rights)))
-    judged = oe ∙ ap refusal (sym same_number)
+  -- from the number that the judgement of map found
+  pub preview-refused : (j : Result Values Refused) (r : Refused) → IsErr j × IsErrAnd j (λ e. e ≡ r) → number r ≡ number_of (row T (Map s first n rights)) → Called (Preview s first n rights) T (outcome j) T
+  preview-refused j r y e = call-refused (Preview s first n rights) T j r y (e ∙ sym same_number)
 
-    pub preview-refused : (x.number ≡ 0 → ⊥) → Called (Preview s first n rights) T o T
-    preview-refused k = call-refused (Preview s first n rights) T o x judged xe k
-
-    -- m blocks and k ranges were found
-    pub preview-done : x.number ≡ 0 → (m k : ℕ) → m ≡ block_count (pool_size T.control) (free_in T.frames) (wish_before (space_pages T.pages s) first) n
-        → k ≡ range_count (range_words (map_words (space_pages T.pages s) first n rights (frames_for (pool_size T.control) (free_in T.frames) (wish_before (space_pages T.pages s) first) n)))
-        → Called (Preview s first n rights) T (values m k) T
-    unfolding row after sized_row range_count_in taken_block_count taken_frames plain_of free_in map_plain
-    preview-done z m k me ke =
-        let q = map-facts T s first n rights (call-asked (Map s first n rights) T o x oe xe z) in
-        let left = ranges-of (map_plain (plain_of T) s first n rights) (mapped-valid T s first n rights q) s q.spans.space ∙ ap range_words (words-here _ s _) in
-        rw (me, ke, ← left) (call-done (Preview s first n rights) T o x judged xe z T refl)
+  -- m blocks and k ranges were found
+  pub preview-done : 0 ≡ number_of (row T (Map s first n rights)) → (m k : ℕ) → m ≡ block_count (pool_size T.control) (free_in T.frames) (wish_before (space_pages T.pages s) first) n
+      → k ≡ range_count (range_words (map_words (space_pages T.pages s) first n rights (frames_for (pool_size T.control) (free_in T.frames) (wish_before (space_pages T.pages s) first) n)))
+      → Called (Preview s first n rights) T (values m k) T
+  unfolding row after sized_row range_count_in taken_block_count taken_frames plain_of free_in map_plain
+  preview-done e m k me ke =
+      let q = map-facts T s first n rights (call-asked (Map s first n rights) T e) in
+      let left = ranges-of (map_plain (plain_of T) s first n rights) (mapped-valid T s first n rights q) s q.spans.space ∙ ap range_words (words-here _ s _) in
+      rw (me, ke, ← left) (call-done (Preview s first n rights) T (e ∙ sym same_number) T refl)
 
 pub preview-is-map : PreviewIsMap
 unfolding PreviewIsMap

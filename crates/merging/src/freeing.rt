@@ -11,11 +11,7 @@ use framewords::owners::in_span;
 fn cleared(w: u32, owner: u32, n: u32) -> u32
     ensures { result ≡ cleared owner n w }
 {
-    let held = in_span(owner, n, w);
-    if held {
-        return 0;
-    }
-    w
+    if in_span(owner, n, w) { 0 } else { w }
 }
 
 // Takes the n owners from `owner` on out of the words below the pool size; settling sets the others, whatever they say.
@@ -24,12 +20,8 @@ fn clear(frames: &mut [u32], pool: u32, owner: u32, n: u32)
     requires pool_le_largest_pool { pool ≤ largest_pool }
     ensures { ClearedTo frames.old owner n pool frames.new }
 {
-    let end = pool as usize;
-    let mut g = 0;
-    while g < end {
-        let w = cleared(frames[g], owner, n);
-        frames[g] = w;
-        g += 1;
+    for w in &mut frames[..pool as usize] {
+        *w = cleared(*w, owner, n);
     }
 }
 

@@ -15,10 +15,10 @@ pub fn can_start(f: Frame, k: u32) -> bool
     requires k_bound { k ≤ 10 }
     ensures { result ≡ eqb (start_of k f.0) f.0 }
 {
-    let s = start_of(f, k);
-    s.0 == f.0
+    start_of(f, k).0 == f.0
 }
 
+// Stays: two early returns, since `end` is worked out between them.
 // Whether the wholly free block of order k at f is half of a wholly free one.
 pub fn grows(frames: &[u32], pool: u32, f: Frame, k: u32) -> bool
     requires frames_len { length frames.now ≡ frame_buffer_words }
@@ -49,14 +49,12 @@ pub fn grow(frames: &[u32], pool: u32, f: Frame) -> u32
     requires edge { Edge pool (free_in frames.now) f.0 }
     ensures { free_order pool (free_in frames.now) f.0 ≡ some result }
 {
-    let mut k = 0;
-    while k < 10 {
+    for k in 0..10 {
         if !grows(frames, pool, f, k) {
             return k;
         }
-        k += 1;
     }
-    k
+    10
 }
 
 // Settles the held frame or the free block at f; answers the frame after it.
@@ -68,8 +66,7 @@ fn settle_at(frames: &mut [u32], pool: u32, f: Frame) -> Frame
     ensures { SettledTo pool frames.old f.0 result.0 frames.new }
 {
     let at = f.0 as usize;
-    let w = owner_of(frames[at]);
-    if w != 0 {
+    if owner_of(frames[at]) != 0 {
         return Frame(f.0 + 1);
     }
     let k = grow(frames, pool, f);
@@ -86,6 +83,7 @@ pub fn settle(frames: &mut [u32], pool: u32)
     ensures { frames.new ≡ frame_words pool (owners_of frames.old) }
 {
     let mut f = Frame(0);
+    // Stays: a step is as long as the block that it settles, so a range or an iterator over steps of one length is no plainer.
     while f.0 < pool {
         f = settle_at(frames, pool, f);
     }

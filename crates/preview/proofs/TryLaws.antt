@@ -6,8 +6,7 @@ use mathlib.Core.Option.{none, some}
 use Prim.Native.Nat.{ℕ, zero, suc, ◌+◌, ◌-◌, ◌*◌, ◌<◌, ◌≤◌}
 use native.Mathlib.Omega.{arith}
 use lib.ListN.{length, get_or, take, drop}
-use Rattle.words.specs.declared.Outcome.{Outcome}
-use Rattle.words.specs.Rows.{refusal, values, number_of}
+use Rattle.words.specs.Rows.{values, number_of}
 use Rattle.words.specs.Counts.{count}
 use Rattle.words.proofs.Cases.{by-test}
 use Rattle.blocks.specs.FrameWords.{owners_of, free_of, free_in, lawful}
@@ -77,11 +76,11 @@ module _ (T : Tables) (F s first n rights : ℕ) (fe : F ≡ pool_size T.control
       let long = ap length lent_is ∙ pages-long T (lengths-at T w.judged.lengths) s w.space in
       (lw, (long, (rw lent_is held, (pool-enough T F s first n rights fe q, (w.room, q.allowed)))))
 
-  pub try-done : (o x : Outcome) → o ≡ refusal (number_of (row T (Map s first n rights))) → x ≡ o → x.number ≡ 0 → (m k : ℕ)
+  pub try-done : 0 ≡ number_of (row T (Map s first n rights)) → (m k : ℕ)
       → (m ≡ block_count F (free_in T.frames) (wish_before lent first) n) × (k ≡ range_count (range_words (map_words lent first n rights (frames_for F (free_in T.frames) (wish_before lent first) n))))
       → Called (Preview s first n rights) T (values m k) T
-  try-done o x oe xe z m k w =
+  try-done e m k w =
       let v : (m ≡ block_count (pool_size T.control) (free_in T.frames) (wish_before (space_pages T.pages s) first) n)
       × (k ≡ range_count (range_words (map_words (space_pages T.pages s) first n rights (frames_for (pool_size T.control) (free_in T.frames) (wish_before (space_pages T.pages s) first) n)))) = rw (fe, lent_is) at w
       in
-      preview-done s first n rights T o x oe xe z m k v.0 v.1
+      preview-done s first n rights T e m k v.0 v.1

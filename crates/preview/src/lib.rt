@@ -9,25 +9,26 @@ ghost use Rattle.runs.specs.PageWords.{pages_in_space, allowed_rights};
 ghost use Rattle.runs.specs.Runs.{range_count};
 ghost use Rattle.runs.specs.Walk.{range_words};
 ghost use Rattle.layout.specs.declared.TableCall.TheVariants.{Preview};
-ghost use Rattle.layout.specs.Answers.{outcome};
-ghost use Rattle.layout.specs.Tables.{tables};
+ghost use Rattle.words.specs.Answers.{outcome};
+ghost use Rattle.layout.specs.Lent.{read};
 ghost use Rattle.layout.specs.Changes.{wish_before, map_words};
 ghost use Rattle.steps.specs.Inner.{wish_number};
 ghost use Rattle.layout.specs.Calls.{Called};
 
-use layout::Answer;
-use refusals::{judge_map, outcome};
+use layout::Lent;
+use refusals::judge_map;
 use runs::{PAGE_WORDS, Page};
 use steps::{Cost, preview_space};
-use words::writes::copy;
+use words::answers::{Answer, Values};
 
+// Stays: a space's words are a part of the lent buffer, with their length as a clause, as in ranges.
 // A copy of a space's page words. It is returned by value, so that the compiler need not clear what the copy overwrites.
 fn copied(part: &[u32]) -> [u32; PAGE_WORDS]
     requires { length part.now ≡ pages_in_space }
     ensures { result ≡ part.now }
 {
     let mut words = [0u32; PAGE_WORDS];
-    copy(&mut words, part);
+    words.copy_from_slice(part);
     words
 }
 
@@ -47,29 +48,23 @@ fn try_map(frames: &[u32], part: &[u32], pool: u32, first: Page, n: u32, rights:
 }
 
 // What a map of the span would answer; second value: the space's ranges afterwards. Refused: 1, 2, 5, 6, 17, 8, 10, 11, 14.
-pub fn preview(
-    control: &[u32],
-    frames: &[u32],
-    pages: &[u32],
-    ranges: &[u32],
-    space: u32,
-    first: u32,
-    count: u32,
-    rights: u32,
-) -> Answer
-    ensures { Called (Preview space first count rights) (tables control.now frames.now pages.now ranges.now) (outcome result) (tables control.now frames.now pages.now ranges.now) }
+pub fn preview(lent: Lent, space: u32, first: u32, count: u32, rights: u32) -> Answer
+    ensures { Called (Preview space first count rights) (read lent.entry) (outcome result) (read lent.entry) }
 {
-    let judged = judge_map(control, frames, pages, ranges, space, first, count, rights);
-    let o = outcome(judged);
-    if o.number != 0 {
-        return judged;
-    }
-    let pool = control::pool_size(control);
+    judge_map(lent, space, first, count, rights)?;
+    let pool = control::pool_size(lent.control);
     let a = PAGE_WORDS * (space as usize);
     let e = a + PAGE_WORDS;
-    let cost = try_map(frames, &pages[a..e], pool, Page(first), count, rights);
-    Answer::Done {
+    let cost = try_map(
+        lent.frames,
+        &lent.pages[a..e],
+        pool,
+        Page(first),
+        count,
+        rights,
+    );
+    Ok(Values {
         first: cost.blocks,
         second: cost.ranges,
-    }
+    })
 }

@@ -6,49 +6,34 @@ ghost use Rattle.runs.specs.Walk.{entry_of, ended};
 ghost use Rattle.runs.specs.Inner.{Decides, EndFits, WordFits, zero_from};
 ghost use Rattle.runs.specs.Runs.{range_words_in_space, words_in_table_entry};
 
-use crate::page_words::{allowed_rights, frame_in, mapped, offset, range_bit, rights_in};
-use runs::{ENTRY_WORDS, PAGES, Page, SMALLEST_RANGE};
+use crate::page_words::{allowed_rights, mapped, range_bit, rights_in};
+use crate::renew::entry;
+use crate::run_end::RunEnd;
+use runs::{ENTRY_WORDS, PAGES, SMALLEST_RANGE};
 use words::scans::all_zero;
 
-// Whether the entry at place `at` is that of the run of n pages up to `limit`, left out, whose last word is v.
-fn entry_is(ranges: &[u32], at: usize, limit: u32, n: u32, v: u32) -> bool
+// Whether the entry of the run stands at its place.
+fn entry_is(ranges: &[u32], end: RunEnd) -> bool
     requires ranges_len { length ranges.now ≡ range_words_in_space }
-    requires words_in_table_entry_bound { at + words_in_table_entry ≤ range_words_in_space }
-    requires n_le_limit { (n ≤ limit) × (1 ≤ limit) }
-    ensures { Decides result (part at 4 ranges.now ≡ entry_of limit n v) }
+    requires entry_room { end.at + words_in_table_entry ≤ range_words_in_space }
+    requires some { 1 ≤ end.limit }
+    ensures { Decides result (part end.at 4 ranges.now ≡ entry_of end.limit end.pages end.word) }
 {
-    if ranges[at] != limit - n {
-        return false;
-    }
-    if ranges[at + 1] != limit {
-        return false;
-    }
-    let o = offset(frame_in(v), Page(limit - 1));
-    if ranges[at + 2] != o {
-        return false;
-    }
-    let r = rights_in(v);
-    ranges[at + 3] == r
+    ranges[end.at..end.at + ENTRY_WORDS] == entry(end)[..]
 }
 
-// Whether range bit and entry are right where the run of n pages ends at `limit`, unless it goes on there.
-fn end_fits(ranges: &[u32], on: bool, at: usize, limit: u32, n: u32, v: u32) -> bool
-    requires ranges_len { length ranges.now ≡ range_words_in_space }
-    requires v_bound { at + length (ended on limit n v) ≤ range_words_in_space }
-    requires n_le_limit { (n ≤ limit) × (limit ≤ pages_in_space) }
-    ensures { Decides result (EndFits ranges.now on at limit n v) }
+// Whether range bit and entry of the run are right where it ends.
+fn end_fits(ranges: &[u32], end: RunEnd) -> bool
+    requires { length ranges.now ≡ range_words_in_space }
+    ensures { Decides result (EndFits ranges.now end.goes_on end.at end.limit end.pages end.word) }
 {
-    if on {
+    if end.goes_on {
         return true;
     }
-    let bit = range_bit(v);
-    if n < SMALLEST_RANGE {
-        return !bit;
+    if end.pages < SMALLEST_RANGE {
+        return !range_bit(end.word);
     }
-    if bit {
-        return entry_is(ranges, at, limit, n, v);
-    }
-    false
+    range_bit(end.word) && entry_is(ranges, end)
 }
 
 // Whether word w after word v is of the layout, and has the range bit of v where it extends the run.
@@ -58,41 +43,25 @@ fn word_fits(on: bool, v: u32, w: u32) -> bool
     if !mapped(w) {
         return w == 0;
     }
-    if !allowed_rights(rights_in(w)) {
-        return false;
-    }
-    if on {
-        let before = range_bit(v);
-        return range_bit(w) == before;
-    }
-    true
+    allowed_rights(rights_in(w)) && (!on || range_bit(w) == range_bit(v))
 }
 
-// Whether the run before page b fits if it ends there, and word w of page b fits after word v.
-pub fn step_fits(ranges: &[u32], on: bool, at: usize, b: Page, n: u32, v: u32, w: u32) -> bool
-    requires ranges_len { length ranges.now ≡ range_words_in_space }
-    requires v_bound { at + length (ended on b.0 n v) ≤ range_words_in_space }
-    requires n_le_b { (n ≤ b.0) × (b.0 ≤ pages_in_space) }
-    ensures { Decides result (EndFits ranges.now on at b.0 n v × WordFits on v w) }
+// Whether the run fits where it ends, and word w of the next page fits after its last word.
+pub fn step_fits(ranges: &[u32], end: RunEnd, w: u32) -> bool
+    requires { length ranges.now ≡ range_words_in_space }
+    ensures { Decides result (EndFits ranges.now end.goes_on end.at end.limit end.pages end.word × WordFits end.goes_on end.word w) }
 {
-    if !end_fits(ranges, on, at, b.0, n, v) {
-        return false;
-    }
-    word_fits(on, v, w)
+    end_fits(ranges, end) && word_fits(end.goes_on, end.word, w)
 }
 
-// The place of the next entry, after the run of n pages up to `limit`.
-pub fn next_place(on: bool, at: usize, limit: u32, n: u32, v: u32) -> usize
-    requires { at + length (ended on limit n v) ≤ range_words_in_space }
-    ensures { result ≡ at + length (ended on limit n v) }
+// The place of the next entry, after that of the run.
+pub fn next_place(end: RunEnd) -> usize
+    ensures { result ≡ end.at + length (ended end.goes_on end.limit end.pages end.word) }
 {
-    if on {
-        return at;
+    if end.goes_on || end.pages < SMALLEST_RANGE {
+        return end.at;
     }
-    if n < SMALLEST_RANGE {
-        return at;
-    }
-    at + ENTRY_WORDS
+    end.at + ENTRY_WORDS
 }
 
 // Whether the range words from place `at` on are zero.
@@ -110,9 +79,12 @@ pub fn rest_fits(ranges: &[u32], at: usize, n: u32, v: u32) -> bool
     requires n_le_pages_in_space { n ≤ pages_in_space }
     ensures { Decides result (EndFits ranges.now false at pages_in_space n v × (ranges.now ≡ zero_from ranges.now (at + length (ended false pages_in_space n v)))) }
 {
-    if !end_fits(ranges, false, at, PAGES, n, v) {
-        return false;
-    }
-    let rest = next_place(false, at, PAGES, n, v);
-    zeros_from(ranges, rest)
+    let end = RunEnd {
+        goes_on: false,
+        at,
+        limit: PAGES,
+        pages: n,
+        word: v,
+    };
+    end_fits(ranges, end) && zeros_from(ranges, next_place(end))
 }

@@ -16,8 +16,6 @@ const MAPPED: u32 = 65536;
 
 const RANGE_BIT: u32 = 32768;
 
-const MAPPED_IN_RANGE: u32 = 98304;
-
 const RIGHTS: u32 = 4096;
 
 // Rights are at most 7, and write without read is reserved: write alone, and write and execute.
@@ -31,20 +29,15 @@ const WRITE_EXECUTE: u32 = 6;
 pub fn reserved_rights(rights: u32) -> bool
     ensures { result ≡ reserved_rights rights }
 {
-    if rights == WRITE {
-        return true;
-    }
-    rights == WRITE_EXECUTE
+    rights == WRITE || rights == WRITE_EXECUTE
 }
 
+// Stays: allowed rights are a number with a clause, here and in steps: page words, entries of units and callers have numbers, and each call judges its own once.
 // Whether rights are allowed, in a call, a page word, an entry of a unit or an Sv39 entry.
 pub fn allowed_rights(rights: u32) -> bool
     ensures { result ≡ allowed_rights rights }
 {
-    if LARGEST_RIGHTS < rights {
-        return false;
-    }
-    !reserved_rights(rights)
+    rights <= LARGEST_RIGHTS && !reserved_rights(rights)
 }
 
 // Whether the page is mapped.
@@ -52,16 +45,6 @@ pub fn mapped(w: u32) -> bool
     ensures { result ≡ mapped w }
 {
     w / MAPPED == 1
-}
-
-// 1 for the word of a mapped page, 0 for any other.
-pub fn one_if_mapped(w: u32) -> u32
-    ensures { result ≡ one-if (mapped w) }
-{
-    if mapped(w) {
-        return 1;
-    }
-    0
 }
 
 // The range bit of a mapped page.
@@ -90,10 +73,7 @@ fn over_low(bit: bool, low: u32) -> u32
     requires { low < range_bit_factor }
     ensures { result ≡ mapped_part + range_bit_factor * one-if bit + low }
 {
-    if bit {
-        return MAPPED_IN_RANGE + low;
-    }
-    MAPPED + low
+    MAPPED + RANGE_BIT * u32::from(bit) + low
 }
 
 // The word of a mapped page.
@@ -119,14 +99,14 @@ pub fn bit_word(bit: bool, w: u32) -> u32
 pub fn offset(f: Frame, p: Page) -> u32
     ensures { result ≡ wrap_sub word_bits f.0 p.0 }
 {
-    std::num::wrapping_sub_u32(f.0, p.0)
+    f.0.wrapping_sub(p.0)
 }
 
 // The frame that an OFFSET gives to page p.
 pub fn frame_at(p: Page, offset: u32) -> Frame
     ensures { result.0 ≡ wrap_add word_bits p.0 offset }
 {
-    Frame(std::num::wrapping_add_u32(p.0, offset))
+    Frame(p.0.wrapping_add(offset))
 }
 
 // Whether each page from BASE up to LIMIT has a frame below 4,096. The frames ascend with the pages, so the first and the last decide.
@@ -136,8 +116,5 @@ pub fn frames_fit(base: u32, limit: u32, offset: u32) -> bool
     ensures { result ≡ all_from (limit - base) base (λ p. nat_lt (frame_by offset p) largest_pool) }
 {
     let f = frame_at(Page(base), offset);
-    if LARGEST_POOL <= f.0 {
-        return false;
-    }
-    f.0 + (limit - base) <= LARGEST_POOL
+    f.0 < LARGEST_POOL && f.0 + (limit - base) <= LARGEST_POOL
 }

@@ -1,6 +1,5 @@
 // The running length, carried from page to page by the walk that checks a space: at each page the number of pages of its longest run up to there, 0 where it is in none.
-ghost use Rattle.std.specs.Prelude.{◌≡◌, ◌+◌, ◌<◌, ◌≤◌, length, nat_lt, slice_index};
-ghost use Rattle.words.specs.Counts.{one-if};
+ghost use Rattle.std.specs.Prelude.{◌≡◌, ◌+◌, ◌<◌, ◌≤◌, length, slice_index};
 ghost use Rattle.runs.specs.PageWords.{pages_in_space};
 ghost use Rattle.runs.specs.Running.{RunningLength, Carries, RunningAlong};
 ghost use Rattle.runs.specs.Inner.{Along};
@@ -41,22 +40,11 @@ pub fn pass_stretch(part: &[u32], b: Page, before: Carried, along: Stretch) -> C
     requires b_le_pages_in_space { b.0 ≤ pages_in_space }
     requires carries { Carries part.now b.0 before.length before.word }
     requires along { Along part.now b.0 before.word along.pages along.mapped }
-    requires last_value { along.last ≡ before.word + along.mapped }
     ensures running_along { RunningAlong part.now b.0 before.length along.pages result.length }
     ensures carries_2 { Carries part.now (b.0 + along.pages) result.length result.word }
 {
     Carried {
         length: before.length + along.mapped,
-        word: along.last,
+        word: before.word + along.mapped,
     }
-}
-
-// 1 where a page is in a run, that is, mapped, and 0 where it is not; by its running length.
-pub fn one_if_in_run(n: u32) -> u32
-    ensures { result ≡ one-if (nat_lt 0 n) }
-{
-    if 0 < n {
-        return 1;
-    }
-    0
 }

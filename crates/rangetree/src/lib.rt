@@ -4,6 +4,7 @@
 mod judging;
 
 ghost use Rattle.std.specs.Prelude.{◌≡◌};
+ghost use Rattle.words.specs.Answers.{outcome};
 ghost use Rattle.words.specs.Rows.{Promised};
 ghost use Rattle.trees.specs.Trees.{nodes, tree_of, OthersStay};
 ghost use Rattle.trees.specs.Insertion.{insertion_way};
@@ -11,85 +12,107 @@ ghost use Rattle.trees.specs.Removal.{removal_way};
 ghost use Rattle.trees.specs.Calls.{insert_call, remove_call, lookup_call};
 ghost use Rattle.rangetree.specs.Exports.{TreeExported};
 
-use crate::judging::{answer, begins_at, has_page, judge_buffer, judge_range, page_value, search};
+use crate::judging::{begins_at, has_page, judge_buffer, judge_range, page_value, search};
 use runs::{LAST_PAGE, Page};
 use treecheck::checking::height;
 use treeinsert::insert_root;
 use treeremove::root::remove_root;
-use trees::Range;
-use words::Outcome;
+use trees::{Buffer, Range, TREE_WORDS};
+use words::answers::{Answer, Refused, Values, outcome};
 use words::places::{VALUES, give};
 
-// A range into the tree. Refused: 1, 2, 6, 17, 8, 11.
-pub fn insert(tree: &mut [u32], base: u32, limit: u32, offset: u32, rights: u32) -> Outcome
-    ensures promised { Promised (insert_call tree.old (record { base = base; limit = limit; offset = offset; rights = rights })) tree.old result tree.new }
-    ensures others_stay { result.number ≡ 0 → OthersStay tree.old (nodes (tree_of tree.old).height (tree_of tree.old).tree) (insertion_way base (tree_of tree.old).height (tree_of tree.old).tree) tree.new }
+// A range into a buffer of the right length.
+fn insert_into(tree: &mut Buffer, r: Range) -> Answer
+    ensures promised { Promised (insert_call tree.old r) tree.old (outcome result) tree.new }
+    ensures others_stay { (outcome result).number ≡ 0 → OthersStay tree.old (nodes (tree_of tree.old).height (tree_of tree.old).tree) (insertion_way r.base (tree_of tree.old).height (tree_of tree.old).tree) tree.new }
 {
-    let judged = judge_buffer(tree);
-    if judged != 0 {
-        return answer(judged);
-    }
-    let r = Range {
-        base: base,
-        limit: limit,
-        offset: offset,
-        rights: rights,
-    };
-    let beside = judge_range(tree, r);
-    if beside != 0 {
-        return answer(beside);
-    }
+    judge_buffer(tree)?;
+    judge_range(tree, r)?;
     let h = height(tree);
     insert_root(tree, h, r);
-    answer(0)
+    Ok(Values::from(0))
 }
 
-// The range of this BASE out of the tree. Refused: 1, 2, 8, 12.
-pub fn remove(tree: &mut [u32], base: u32) -> Outcome
-    ensures promised { Promised (remove_call tree.old base) tree.old result tree.new }
-    ensures others_stay { result.number ≡ 0 → OthersStay tree.old (nodes (tree_of tree.old).height (tree_of tree.old).tree) (removal_way base (tree_of tree.old).height (tree_of tree.old).tree) tree.new }
+// A range into the tree. Refused: 1, 2, 6, 17, 8, 11.
+// Stays: the three calls make an array of the slice each by itself. One function that does it and goes on with a closure is no plainer: it would state what each call promises once more, and `lookup` is lent a tree by `&`.
+pub fn insert(tree: &mut [u32], base: u32, limit: u32, offset: u32, rights: u32) -> Answer
+    ensures promised { Promised (insert_call tree.old (record { base = base; limit = limit; offset = offset; rights = rights })) tree.old (outcome result) tree.new }
+    ensures others_stay { (outcome result).number ≡ 0 → OthersStay tree.old (nodes (tree_of tree.old).height (tree_of tree.old).tree) (insertion_way base (tree_of tree.old).height (tree_of tree.old).tree) tree.new }
 {
-    let judged = judge_buffer(tree);
-    if judged != 0 {
-        return answer(judged);
-    }
+    let Some(buffer) = tree.as_mut_array::<TREE_WORDS>() else {
+        return Err(Refused::WrongLength);
+    };
+    let r = Range {
+        base,
+        limit,
+        offset,
+        rights,
+    };
+    insert_into(buffer, r)
+}
+
+// The range of this BASE out of a buffer of the right length.
+fn remove_from(tree: &mut Buffer, base: u32) -> Answer
+    ensures promised { Promised (remove_call tree.old base) tree.old (outcome result) tree.new }
+    ensures others_stay { (outcome result).number ≡ 0 → OthersStay tree.old (nodes (tree_of tree.old).height (tree_of tree.old).tree) (removal_way base (tree_of tree.old).height (tree_of tree.old).tree) tree.new }
+{
+    judge_buffer(tree)?;
     if LAST_PAGE < base {
-        return answer(8);
+        return Err(Refused::WrongSpan);
     }
     let p = search(tree, Page(base));
-    let r = p.range;
-    if !begins_at(r, Page(base)) {
-        return answer(12);
+    if !begins_at(p.range, Page(base)) {
+        return Err(Refused::NotMapped);
     }
     let h = height(tree);
     remove_root(tree, h, base);
-    answer(0)
+    Ok(Values::from(0))
+}
+
+// The range of this BASE out of the tree. Refused: 1, 2, 8, 12.
+pub fn remove(tree: &mut [u32], base: u32) -> Answer
+    ensures promised { Promised (remove_call tree.old base) tree.old (outcome result) tree.new }
+    ensures others_stay { (outcome result).number ≡ 0 → OthersStay tree.old (nodes (tree_of tree.old).height (tree_of tree.old).tree) (removal_way base (tree_of tree.old).height (tree_of tree.old).tree) tree.new }
+{
+    let Some(buffer) = tree.as_mut_array::<TREE_WORDS>() else {
+        return Err(Refused::WrongLength);
+    };
+    remove_from(buffer, base)
+}
+
+// The page in a buffer of the right length.
+fn lookup_in(tree: &Buffer, page: u32) -> Answer
+    ensures { Promised (lookup_call tree.now page) tree.now (outcome result) tree.now }
+{
+    judge_buffer(tree)?;
+    if LAST_PAGE < page {
+        return Err(Refused::WrongSpan);
+    }
+    let p = search(tree, Page(page));
+    let Some(r) = p.range else {
+        return Err(Refused::NotMapped);
+    };
+    if !has_page(r, Page(page)) {
+        return Err(Refused::NotMapped);
+    }
+    Ok(Values {
+        first: page_value(r, Page(page)),
+        second: p.nodes,
+    })
 }
 
 // The page in the tree: 4,096 × rights + frame, then how many nodes the way to its range has. Refused: 1, 2, 8, 12.
-pub fn lookup(tree: &[u32], page: u32) -> Outcome
-    ensures { Promised (lookup_call tree.now page) tree.now result tree.now }
+pub fn lookup(tree: &[u32], page: u32) -> Answer
+    ensures { Promised (lookup_call tree.now page) tree.now (outcome result) tree.now }
 {
-    let judged = judge_buffer(tree);
-    if judged != 0 {
-        return answer(judged);
-    }
-    if LAST_PAGE < page {
-        return answer(8);
-    }
-    let p = search(tree, Page(page));
-    let r = p.range;
-    if !has_page(r, Page(page)) {
-        return answer(12);
-    }
-    Outcome {
-        number: 0,
-        first: page_value(r, Page(page)),
-        second: p.nodes,
-    }
+    let Some(buffer) = tree.as_array::<TREE_WORDS>() else {
+        return Err(Refused::WrongLength);
+    };
+    lookup_in(buffer, page)
 }
 
 // `insert` for C and Rust: the number is returned, the values go into a lent place. Refused: 1, 2, 6, 17, 8, 11.
+// Stays: each export is written out, with its own test of the place for the values: the C interface has them so.
 #[unsafe(no_mangle)]
 pub extern "C" fn yavrestom_tree_insert(
     tree: &mut [u32],
@@ -104,8 +127,7 @@ pub extern "C" fn yavrestom_tree_insert(
     if values.len() != VALUES {
         return 1;
     }
-    let o = insert(tree, base, limit, offset, rights);
-    give(values, o)
+    give(values, outcome(insert(tree, base, limit, offset, rights)))
 }
 
 // `remove` for C and Rust, in the same way. Refused: 1, 2, 8, 12.
@@ -116,8 +138,7 @@ pub extern "C" fn yavrestom_tree_remove(tree: &mut [u32], base: u32, values: &mu
     if values.len() != VALUES {
         return 1;
     }
-    let o = remove(tree, base);
-    give(values, o)
+    give(values, outcome(remove(tree, base)))
 }
 
 // `lookup` for C and Rust, in the same way. Refused: 1, 2, 8, 12.
@@ -128,6 +149,5 @@ pub extern "C" fn yavrestom_tree_lookup(tree: &[u32], page: u32, values: &mut [u
     if values.len() != VALUES {
         return 1;
     }
-    let o = lookup(tree, page);
-    give(values, o)
+    give(values, outcome(lookup(tree, page)))
 }

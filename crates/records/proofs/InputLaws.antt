@@ -2,7 +2,7 @@
 use mathlib.Core.Path.{◌≡◌, refl, ap, sym, subst, ◌∙◌}
 use mathlib.Core.Bool.{Bool, true, false, cond}
 use mathlib.Core.List.{List}
-use Prim.Native.Nat.{ℕ, ◌+◌, ◌-◌, ◌*◌, ◌≤◌, ◌<◌}
+use Prim.Native.Nat.{ℕ, ◌+◌, ◌-◌, ◌≤◌, ◌<◌}
 use native.Mathlib.Nat.{add_comm}
 use native.Mathlib.Omega.{arith}
 use lib.Dec.{eqb, ltb}
@@ -10,10 +10,10 @@ use lib.ListN.{length, get_or, take, drop, length-drop}
 use lib.Seq.{length-take-le, get_or-take, take-add, drop-drop, drop_at}
 use borrow.Author.Tests.{lt-ltb, le-ltb, eq-eqb, ne_eqb, ltb-false, eqb-true, eqb-false}
 use Rattle.words.proofs.Cases.{by-test}
-use Rattle.records.specs.declared.Meaning.{Meaning}
+use Rattle.std.specs.Prelude.{Option, Some, None, MatchOption, unwrap_or}
 use Rattle.records.specs.declared.Window.{Window}
 use Rattle.records.specs.declared.Next.TheVariants.{End, Cut, Whole}
-use Rattle.records.specs.Records.{word_at, meaning}
+use Rattle.records.specs.Records.{word_at, Meaning, meaning}
 use Rattle.records.specs.Input.{waiting, standing, record_of, next_of, behind}
 
 -- a length that is not 0 passed both tests
@@ -22,28 +22,29 @@ not-refused true q n f = absurd (f refl)
 not-refused false true n f = absurd (f refl)
 not-refused false false n f = refl
 
--- the length of the record at the front, where n is the number that the head's two bytes give
+-- the length of the record at the front
 module _ (b : List ℕ) where
   pub no-head : length b < 2 → standing b ≡ 0
   unfolding standing
   no-head h = rw (lt-ltb (length b) 2 h)
 
-  module _ (n : ℕ) (head : n ≡ get_or b 0 0 + 256 * get_or b 1 0) (h : 2 ≤ length b) where
-    head-is : word_at b 0 ≡ n
-    unfolding word_at
-    head-is = sym head
-
-    pub part_of : length b < n + 2 → standing b ≡ 0
+  module _ (h : 2 ≤ length b) where
+    pub part_of : length b < word_at b 0 + 2 → standing b ≡ 0
     unfolding standing
-    part_of l = rw (le-ltb (length b) 2 h, head-is, lt-ltb (length b) (n + 2) l)
+    part_of l = rw (le-ltb (length b) 2 h, lt-ltb (length b) (word_at b 0 + 2) l)
 
-    pub stands : n + 2 ≤ length b → standing b ≡ n + 2
+    pub stands : word_at b 0 + 2 ≤ length b → standing b ≡ word_at b 0 + 2
     unfolding standing
-    stands l = rw (le-ltb (length b) 2 h, head-is, le-ltb (length b) (n + 2) l)
+    stands l = rw (le-ltb (length b) 2 h, le-ltb (length b) (word_at b 0 + 2) l)
 
   pub stands-so : (standing b ≡ 0 → ⊥) → standing b ≡ word_at b 0 + 2
   unfolding standing
   stands-so f = not-refused (ltb (length b) 2) (ltb (length b) (word_at b 0 + 2)) (word_at b 0 + 2) f
+
+-- an answer of the length, as a number
+pub amount : (o : Option ℕ) (s : ℕ) → MatchOption o (s ≡ 0) (λ n. (n ≡ s) × (2 ≤ n)) → unwrap_or o 0 ≡ s
+amount None s e = sym e
+amount (Some n) s e = e.0
 
 -- what the bytes give
 module _ (b : List ℕ) where
@@ -56,15 +57,12 @@ module _ (b : List ℕ) where
     unfolding next_of
     cut_short e = rw (ne_eqb (length b) 0 some, eq-eqb (standing b) 0 e)
 
-    module _ (n : ℕ) (is : n ≡ standing b) (whole : n ≡ 0 → ⊥) where
+    module _ (n : ℕ) (is : n ≡ standing b) (whole : 2 ≤ n) where
       stands-there : standing b ≡ 0 → ⊥
-      stands-there e = whole (is ∙ e)
-
-      pub record_is : n ≡ word_at b 0 + 2
-      record_is = is ∙ stands-so b stands-there
+      stands-there e = omega arith
 
       less-head : n - 2 ≡ word_at b 0
-      less-head = let e = record_is in omega arith
+      less-head = let e = stands-so b stands-there in omega arith
 
       pub all_there : (m : Meaning) → m ≡ meaning (take (n - 2) (drop 2 b)) → Whole m ≡ next_of b
       unfolding next_of record_of
@@ -91,12 +89,11 @@ module _ (b x : List ℕ) (whole : standing b ≡ 0 → ⊥) (same : take (stand
   same_byte : (i : ℕ) → i < standing b → get_or x i 0 ≡ get_or b i 0
   same_byte i h = sym (get_or-take (standing b) x i 0 h) ∙ ap (λ (l : List ℕ). get_or l i 0) same ∙ get_or-take (standing b) b i 0 h
 
-  same_head : word_at b 0 ≡ get_or x 0 0 + 256 * get_or x 1 0
-  unfolding word_at
+  same_head : word_at b 0 ≡ word_at x 0
   same_head = let e = with-head in rw (same_byte 0 (omega arith), same_byte 1 (omega arith))
 
   pub same-standing : standing x ≡ standing b
-  same-standing = let e = with-head in stands x (word_at b 0) same_head (omega arith) (omega arith) ∙ sym e
+  same-standing = let e = with-head in let h = same_head in stands x (omega arith) (omega arith) ∙ ap (λ (n : ℕ). n + 2) (sym h) ∙ sym e
 
   -- the record's bytes are those of the front without its head
   bytes_of : (y : List ℕ) → 2 ≤ length y → take (word_at b 0) (drop 2 y) ≡ drop 2 (take (2 + word_at b 0) y)
@@ -106,7 +103,7 @@ module _ (b x : List ℕ) (whole : standing b ≡ 0 → ⊥) (same : take (stand
   same-front = let e : standing b ≡ 2 + word_at b 0 = with-head ∙ add_comm (word_at b 0) 2 in subst (λ (k : ℕ). take k x ≡ take k b) e same
 
   same-record : record_of x ≡ record_of b
-  unfolding record_of word_at
+  unfolding record_of
   same-record =
       let e = with-head in
       let w = within b in
@@ -144,6 +141,10 @@ module _ (w : Window) (buffer : List ℕ) (ordered : w.from ≤ w.to) (inside : 
       ∙ sym (drop_at (take k (drop w.from buffer)) (take (w.to - (w.from + k)) (drop k (drop w.from buffer))) k (length-take-le k (drop w.from buffer) (omega arith)))
       ∙ ap (drop k) (sym (take-add k (w.to - (w.from + k)) (drop w.from buffer)))
       ∙ ap (λ (n : ℕ). drop k (take n (drop w.from buffer))) e
+
+  pub waits-within : standing (waiting w buffer) ≤ w.to - w.from
+  unfolding waiting tail
+  waits-within = holds _ (within (take (w.to - w.from) (drop w.from buffer)))
 
   pub waits-behind : waiting (behind w buffer) buffer ≡ drop (standing (waiting w buffer)) (waiting w buffer)
   unfolding waiting behind tail

@@ -8,6 +8,7 @@ use native.Mathlib.Omega.{arith}
 use lib.ListN.{length, take, drop, set, length-append}
 use lib.Seq.{paste, length_paste_head, length-take-le, take_at, set_at, drop-cons, drop-drop, drop-append-add}
 use lib.Dec.{ltb}
+use borrow.Rule.Slice.PartMut.{put_mid}
 use borrow.Author.Tests.{ltb-true, ltb-false}
 use Rattle.words.proofs.Cases.{by-test}
 use Rattle.io.specs.Digits.{last_digits, IsDigitCount}
@@ -43,6 +44,15 @@ module _ (n k : ℕ) (fewest : IsDigitCount 10 1 n k) where
   digits_are : k ≤ 20 → last_digits 10 k n ≡ decimal n
   unfolding decimal
   digits_are h = ap (λ (j : ℕ). last_digits 10 j n) (sym (places_is 19 1 (omega arith) fewest.0 (omega arith)))
+
+-- bytes copied to a place
+pub pasted : (out text mid : List ℕ) (at k : ℕ) → mid ≡ take k text → put_mid at (at + k - at) out mid ≡ paste out at text k
+pasted out text mid at k e =
+    let count : at + k - at ≡ k = omega arith in
+    ap (λ (j : ℕ). put_mid at j out mid) count
+    ∙ ap (λ (l : List ℕ). take at out ++ (l ++ drop k (drop at out))) e
+    ∙ ap (λ (l : List ℕ). take at out ++ (take k text ++ l)) (drop-drop k at out)
+    ∙ sym (append_assoc (take at out) (take k text) (drop (at + k) out))
 
 -- a number put at a place, and the byte after it
 module _ (out text next : List ℕ) (at n k after : ℕ) (fewest : IsDigitCount 10 1 n k) (k-fits : k ≤ 20) (copied : next ≡ paste out at text k) (spelt : take k text ≡ last_digits 10 k n) (at-fits : at + k < length out) (text-fits : k ≤ length text) where

@@ -1,3 +1,4 @@
 pub mod Records
+pub mod Kinds
 pub mod Input
 pub mod Lines

@@ -12,18 +12,6 @@ pub fn heading() -> [u8; 32]
     *b"record kind answer first second\n"
 }
 
-// Copies the first n bytes of `from` to place `at` of `out`.
-fn copy(from: &[u8; 20], n: usize, out: &mut [u8], at: usize)
-    requires n_bound { n ≤ 20 }
-    requires n_in_bounds { n ≤ length from.now }
-    requires n_in_bounds_2 { at + n ≤ length out.old }
-    ensures { out.new ≡ paste out.old at from.now n }
-{
-    for i in 0..n {
-        out[at + i] = from[i];
-    }
-}
-
 // Puts a number and the byte after it at place `at` of `out`, and answers the place after them.
 fn put(n: u64, after: u8, out: &mut [u8], at: usize) -> usize
     requires { at + 21 ≤ length out.old }
@@ -33,8 +21,8 @@ fn put(n: u64, after: u8, out: &mut [u8], at: usize) -> usize
 {
     let mut text = [0u8; 20];
     let k = io::decimal(n, &mut text);
-    copy(&text, k, out, at);
     let end = at + k;
+    out[at..end].copy_from_slice(&text[..k]);
     out[end] = after;
     end + 1
 }

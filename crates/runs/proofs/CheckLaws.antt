@@ -1,6 +1,6 @@
 -- The walk that checks range bits and range words.
 use mathlib.Core.Path.{◌≡◌, refl, ap, ap₂, ◌∙◌, sym}
-use mathlib.Core.Bool.{Bool, true, false, beq, not}
+use mathlib.Core.Bool.{Bool, true, false, beq}
 use mathlib.Core.List.{List, [], ◌∷◌, ◌++◌, append_assoc, append-nil}
 use Prim.Native.Nat.{ℕ, suc, ◌+◌, ◌-◌, ◌<◌, ◌≤◌}
 use native.Mathlib.Nat.{add-zero}
@@ -8,16 +8,15 @@ use native.Mathlib.Decide.{dec_lt, dec_le, ℕ_discrete}
 use native.Mathlib.Omega.{arith}
 use lib.Dec.{eqb, leb, ltb}
 use lib.ListN.{length, get_or, drop, take, replicate, length-replicate, length-drop, take-append-drop, get_or-replicate}
-use lib.Seq.{drop-cons, ext_get_or, get_or-drop, take-add, take_at, drop_at, length-take-le, get_or-append-add}
-use borrow.Author.Tests.{le-leb, lt-leb, eqb-true, eqb-false, eq-eqb, not-true, not-false}
+use lib.Seq.{ext_get_or, get_or-drop, take-add, take_at, drop_at, length-take-le, get_or-append-add}
+use borrow.Author.Tests.{lt-leb, eqb-true, eqb-false, eq-eqb}
 use Rattle.words.specs.Tables.{part}
 use Rattle.words.specs.Searches.{all_from}
 use Rattle.words.specs.Inner.{same_in}
 use Rattle.words.proofs.SearchLaws.{all_from_at, some-fails, every-at, at_every}
-use Rattle.words.specs.Wrapping.{wrap_sub}
 use Rattle.words.proofs.Cases.{by-test, by-dec, true-false, and-true, true-and}
 use Rattle.words.proofs.CountLaws.{one-if-le}
-use Rattle.runs.specs.PageWords.{allowed_rights, mapped, range_bit, frame_in, rights_in, is_page_word}
+use Rattle.runs.specs.PageWords.{allowed_rights, mapped, range_bit, rights_in, is_page_word}
 use Rattle.runs.specs.Running.{RunningLength, Carries}
 use Rattle.runs.specs.Walk.{joins, goes_on, bit_word, with_bits, ended, entry_of, entries, range_words, same, all_page_words, lawful_ranges}
 use Rattle.runs.specs.Inner.{Empty, Onward, Along, nowhere, empty, onward, Decides, EndFits, WordFits, zero_from}
@@ -72,30 +71,6 @@ says-no r e n = record { yes = λ t. true-false r t e; no = λ f p. n p }
 pub says-yes : {P : Type 0} (r : Bool) → r ≡ true → P → Decides r P
 says-yes r e p = record { yes = λ t. p; no = λ f q. true-false r e f }
 
-pub says-also : {P Q : Type 0} (r : Bool) → P → Decides r Q → Decides r (P × Q)
-says-also r p d = record { yes = λ t. (p, d.yes t); no = λ f q. d.no f q.1 }
-
--- the four words of an entry, one by one
-four : (rs : List ℕ) (at : ℕ) → at + 4 ≤ length rs → part at 4 rs ≡ get_or rs at 0 ∷ get_or rs (at + 1) 0 ∷ get_or rs (at + 2) 0 ∷ get_or rs (at + 3) 0 ∷ []
-unfolding part
-four rs at r =
-    let a : at + 1 ≡ suc at = omega arith in
-    let b : at + 2 ≡ suc (suc at) = omega arith in
-    let c : at + 3 ≡ suc (suc (suc at)) = omega arith in
-    rw (a, b, c, drop-cons rs at 0 (omega arith), drop-cons rs (suc at) 0 (omega arith), drop-cons rs (suc (suc at)) 0 (omega arith), drop-cons rs (suc (suc (suc at))) 0 (omega arith)) refl
-
-pub entry-word : (rs : List ℕ) (at b n v k : ℕ) → at + 4 ≤ length rs → part at 4 rs ≡ entry_of b n v
-    → get_or (get_or rs at 0 ∷ get_or rs (at + 1) 0 ∷ get_or rs (at + 2) 0 ∷ get_or rs (at + 3) 0 ∷ []) k 0 ≡ get_or (entry_of b n v) k 0
-entry-word rs at b n v k r e = ap (λ (l : List ℕ). get_or l k 0) (sym (four rs at r) ∙ e)
-
-pub last_word : (rs : List ℕ) (at b n v o r : ℕ) → at + 4 ≤ length rs → get_or rs at 0 ≡ b - n → get_or rs (at + 1) 0 ≡ b → get_or rs (at + 2) 0 ≡ o → o ≡ wrap_sub 32 (frame_in v) (b - 1) → r ≡ rights_in v
-    → Decides (eqb (get_or rs (at + 3) 0) r) (part at 4 rs ≡ entry_of b n v)
-unfolding entry_of
-last_word rs at b n v o r h x y z e f = record {
-  yes = λ t. four rs at h ∙ ap₂ ◌∷◌ x (ap₂ ◌∷◌ y (ap₂ ◌∷◌ (z ∙ e) (ap₂ ◌∷◌ (eqb-true _ _ t ∙ f) refl)));
-  no = λ t p. eqb-false _ _ t (entry-word rs at b n v 3 h p ∙ sym f);
-}
-
 -- equality of two bools
 beq-true : (a b : Bool) → beq a b ≡ true → a ≡ b
 beq-true true true t = refl
@@ -125,25 +100,6 @@ word_on on v w r a b m e f o x y = record {
 
 pub word-new : (on : Bool) (v w r : ℕ) → mapped w ≡ true → r ≡ rights_in w → allowed_rights r ≡ true → on ≡ false → WordFits on v w
 word-new on v w r m e f o = record { layout = mapped-word w m (ap allowed_rights (sym e) ∙ f); bit = λ t n. true-false on t o }
-
--- the end of a run of eight or more pages with its bit
-pub end-entry : (rs : List ℕ) (on : Bool) (at b n v : ℕ) (r : Bool) → 8 ≤ n → range_bit v ≡ true → on ≡ false → Decides r (part at 4 rs ≡ entry_of b n v) → Decides r (EndFits rs on at b n v)
-end-entry rs on at b n v r h t o d = record {
-  yes = λ y. record { bit = λ f. t ∙ sym (le-leb 8 n h); entry = λ f g. d.yes y };
-  no = λ y p. d.no y (p.entry o h);
-}
-
-pub end_short : (rs : List ℕ) (on : Bool) (at b n v : ℕ) (r : Bool) → n < 8 → on ≡ false → r ≡ range_bit v → Decides (not r) (EndFits rs on at b n v)
-end_short rs on at b n v r h o e = record {
-  yes = λ t. record { bit = λ f. sym e ∙ not-true r t ∙ sym (lt-leb 8 n h); entry = λ f g. absurd (omega arith) };
-  no = λ t p. true-false r (not-false r t) (e ∙ p.bit o ∙ lt-leb 8 n h);
-}
-
-pub end_on : (rs : List ℕ) (on : Bool) (at b n v : ℕ) → on ≡ true → EndFits rs on at b n v
-end_on rs on at b n v t = record { bit = λ f. true-false on t f; entry = λ f. true-false on t f }
-
-pub end-wrong : (rs : List ℕ) (on : Bool) (at b n v : ℕ) → 8 ≤ n → range_bit v ≡ false → on ≡ false → EndFits rs on at b n v → ⊥
-end-wrong rs on at b n v h f o p = true-false (range_bit v) (p.bit o ∙ le-leb 8 n h) f
 
 zeros-end : (rs : List ℕ) (at j : ℕ) → at ≤ length rs → length rs ≤ j → ((q : ℕ) → at ≤ q → q < j → get_or rs q 0 ≡ 0) → rs ≡ zero_from rs at
 unfolding zero_from

@@ -1,23 +1,22 @@
 -- The walk that rebuilds range bits and range words.
 use mathlib.Core.Path.{◌≡◌, refl, ap, ◌∙◌, sym}
 use mathlib.Core.Bool.{Bool, true, false}
-use mathlib.Core.List.{List, [], ◌∷◌, ◌++◌}
+use mathlib.Core.List.{List, ◌++◌}
 use Prim.Native.Nat.{ℕ, suc, ◌+◌, ◌-◌, ◌<◌, ◌≤◌, zero-le}
 use native.Mathlib.Nat.{add-zero}
 use native.Mathlib.Decide.{dec_lt, ℕ_discrete}
 use native.Mathlib.Omega.{arith}
 use lib.Dec.{leb}
-use lib.ListN.{length, get_or, drop, take, set, replicate, length-append, length-set, length-replicate, get_or-replicate, get_or-append}
-use lib.Seq.{ext_get_or, get_or-set_same, get_or-set_other, get_or-take, get_or-append-add, sets, sets-eq, length-sets, length-take-le, take_at}
+use lib.ListN.{length, get_or, drop, take, set, length-append, length-set}
+use lib.Seq.{ext_get_or, get_or-set_same, get_or-set_other, sets, sets-eq, length-sets, take_at}
 use borrow.Author.Tests.{le-leb, lt-leb}
 use Rattle.words.specs.Counts.{one-if}
-use Rattle.words.specs.Inner.{Filled}
 use Rattle.words.proofs.Cases.{by-test, by-dec}
 use Rattle.words.proofs.CountLaws.{one-if-le}
-use Rattle.words.proofs.WriteLaws.{change-none, change-more}
+use Rattle.words.proofs.WriteLaws.{change-none}
 use Rattle.runs.specs.PageWords.{mapped, range_bit}
 use Rattle.runs.specs.Walk.{joins, goes_on, bit_word, with_bits, ended, entry_of, entries}
-use Rattle.runs.specs.Inner.{Empty, Onward, Along, nowhere, empty, onward, Marked, zero_from, marked_pages, EndedRun}
+use Rattle.runs.specs.Inner.{Empty, Onward, Along, nowhere, empty, onward, Marked, marked_pages, EndedRun}
 use Rattle.runs.proofs.WordLaws.{zero-unmapped, bit-of, joins_at, bit-none, goes-join, goes-new}
 use Rattle.runs.proofs.RunningLaws.{no_run}
 use Rattle.runs.proofs.StepLaws.{inside-words, walk-empty, walk-onward, next-on, next-short, next-long, Walked, walk_start, run-le, at_length, left_step, left_end, left-room, walk_step, stops-step, stops_end, bit-run, walk_end}
@@ -26,32 +25,6 @@ use Rattle.runs.proofs.WalkLaws.{run_before, goes-zero, whole, bit_at, with_bits
 -- Marking, word by word
 pub mark-none : (bit : Bool) (xs : List ℕ) (a : ℕ) → Marked bit xs a 0 xs
 mark-none bit xs a = let z : a + 0 ≡ a = omega arith in rw z (change-none _ xs a)
-
-pub mark-more : (bit : Bool) (xs ys : List ℕ) (a k : ℕ) (x : ℕ) → a + k < length ys → Marked bit xs a k ys → x ≡ bit_word bit (get_or ys (a + k) 0) → Marked bit xs a (k + 1) (set ys (a + k) x)
-mark-more bit xs ys a k x h m e = let z : a + (k + 1) ≡ a + k + 1 = omega arith in rw z (change-more _ xs a (a + k) x ys (omega arith) h e m)
-
--- zeros from a place on
-pub zero-filled : (xs ys : List ℕ) (at : ℕ) → Filled xs at (length xs) 0 ys → at ≤ length xs → length ys ≡ length xs → ys ≡ zero_from xs at
-unfolding zero_from
-zero-filled xs ys at f h l =
-    let zeros : List ℕ = replicate (length xs - at) 0 in
-    let n = length-take-le at xs h in
-    let m = length-replicate {A = ℕ} (length xs - at) 0 in
-    ext_get_or 0 ys (take at xs ++ zeros) (omega (arith, length-append (take at xs) zeros)) (λ i lt.
-    by-dec (dec_lt i at)
-    (λ before. f.below i before ∙ sym (get_or-append (take at xs) zeros 0 i (omega arith) ∙ get_or-take at xs i 0 before))
-    (λ here.
-    let e : i ≡ length (take at xs) + (i - at) = omega arith in
-    f.inside i (omega arith) (omega arith)
-    ∙ sym (ap (λ (k : ℕ). get_or (take at xs ++ zeros) k 0) e ∙ get_or-append-add (take at xs) zeros (i - at) 0 ∙ get_or-replicate (length xs - at) (i - at) 0 0 (omega arith))))
-
--- an entry, word by word
-pub put_is : (xs : List ℕ) (at a b c d c' d' : ℕ) → c ≡ c' → d ≡ d' → set (set (set (set xs at a) (at + 1) b) (at + 2) c) (at + 3) d ≡ sets xs at (a ∷ b ∷ c' ∷ d' ∷ [])
-put_is xs at a b c d c' d' e f =
-    let p : at + 1 ≡ suc at = omega arith in
-    let q : at + 2 ≡ suc (suc at) = omega arith in
-    let r : at + 3 ≡ suc (suc (suc at)) = omega arith in
-    rw (p, q, r, e, f) refl
 
 -- the three ways that a run goes
 pub still-on : (xs rs : List ℕ) (on : Bool) (at b n v : ℕ) → on ≡ true → EndedRun xs rs on at b n v at xs rs

@@ -176,12 +176,6 @@ onward-scanned ws bs i v j u most r h room low x =
           (beside_at ws i (v + 1) bs j u k (x.pass k (omega arith) lt)).0 ∙ sum;
     }
 
-pub along-nowhere : (ws : List ℕ) (i w p m : ℕ) → p ≡ 0 → m ≡ 0 → Along ws i w p m
-along-nowhere ws i w p m e f = rw (e, f) nowhere
-
-pub along-empty : (ws : List ℕ) (i w p m : ℕ) → w ≡ 0 → Empty ws i p → m ≡ 0 → Along ws i w p m
-along-empty ws i w p m z e f = rw f (empty z e)
-
 -- a stretch stays in the space
 pub along-room : (ws : List ℕ) (i w p m : ℕ) → i ≤ 1024 → Along ws i w p m → (i + p ≤ 1024) × (m ≤ p)
 along-room ws i w p m h nowhere = (omega arith, zero-le)

@@ -1,11 +1,11 @@
 // Choosing the block that a request takes.
-ghost use Rattle.std.specs.Prelude.{◌≡◌, true, ◌<◌, ◌≤◌, length, get_or};
+ghost use Rattle.std.specs.Prelude.{◌≡◌, true, ◌<◌, ◌≤◌, ℕ, get_or, IfSome, IfNone};
 ghost use Rattle.std.proofs.Math.Option.{some};
 ghost use Rattle.blocks.specs.Blocks.{largest_order, block};
-ghost use Rattle.blocks.specs.FrameWords.{frame_buffer_words, largest_pool, first_of, lawful};
+ghost use Rattle.blocks.specs.FrameWords.{largest_pool, first_of, lawful};
 ghost use Rattle.blocks.specs.Inner.Around.{start_of};
 ghost use Rattle.blocks.specs.Inner.Taking.{nothing_known};
-ghost use Rattle.blocks.specs.Inner.Passes.{order_within, TopOrder, order_at, least, scan_from, PassedTo, from_after, bound_after};
+ghost use Rattle.blocks.specs.Inner.Passes.{order_within, TopOrder, order_at, scan_from, PassedTo, from_after, bound_after};
 ghost use Rattle.blocks.specs.Inner.Marks.{gone_at, starts_by, Finds, Wished, Chooses};
 
 use blocks::{Block, Bound, Chosen, Cut, FREE_FIRST, Frame, LARGEST_OWNER, ORDERS};
@@ -17,17 +17,7 @@ fn top_order(left: u32, limit: u32) -> u32
     requires limit_le_largest_order { limit ≤ largest_order }
     ensures { TopOrder left limit result }
 {
-    let mut k = 0;
-    let mut size = 1;
-    while k < limit {
-        let twice = size + size;
-        if left < twice {
-            return k;
-        }
-        size = twice;
-        k += 1;
-    }
-    k
+    left.ilog2().min(limit)
 }
 
 // The largest order whose block has at most `left` frames.
@@ -45,19 +35,7 @@ fn order_at(limit: u32, top: u32, t: u32) -> u32
     requires t_le_limit { t ≤ limit }
     ensures { result ≡ order_at limit top t }
 {
-    if top + t <= limit {
-        return top + t;
-    }
-    limit - t
-}
-
-fn least(a: u32, b: u32) -> u32
-    ensures { result ≡ least a b }
-{
-    if a < b {
-        return a;
-    }
-    b
+    if top + t <= limit { top + t } else { limit - t }
 }
 
 // The frame from which the scan for order k starts.
@@ -65,93 +43,17 @@ fn scan_from(known: Bound, k: u32) -> Frame
     ensures { result.0 ≡ scan_from known k }
 {
     if k == known.limit {
-        return known.from;
+        known.from
+    } else {
+        Frame(0)
     }
-    Frame(0)
 }
 
 // Word k of the marks; one that is not there is 0.
 pub fn mark_at(marks: &[u32], k: u32) -> u32
     ensures { result ≡ get_or marks.now k 0 }
 {
-    let at = k as usize;
-    if at < marks.len() {
-        return marks[at];
-    }
-    0
-}
-
-// Whether the free block that starts at s in the words lent is left no more.
-fn is_gone(marks: &[u32], s: Frame) -> bool
-    requires { s.0 < largest_pool }
-    ensures { result ≡ gone_at marks.now s.0 }
-{
-    let at = s.0;
-    let word = mark_at(marks, 1 + at / 32);
-    (word >> (at % 32)) % 2 == 1
-}
-
-// Whether a free block of order k starts at s, by the words lent and the marks.
-fn starts_by(frames: &[u32], marks: &[u32], s: Frame, k: u32) -> bool
-    requires frames_len { length frames.now ≡ frame_buffer_words }
-    requires s_lt_largest_pool { s.0 < largest_pool }
-    requires k_le_largest_order { k ≤ largest_order }
-    ensures { result ≡ starts_by frames.now marks.now k s.0 }
-{
-    let at = s.0;
-    if frames[at as usize] != FREE_FIRST + k {
-        return false;
-    }
-    let gone = is_gone(marks, s);
-    !gone
-}
-
-// The order, from k on, of the free block that holds the wished frame; 11 for none.
-fn order_around(frames: &[u32], pool: u32, wish: Frame, k: u32, marks: &[u32]) -> u32
-    requires frames_value { lawful pool frames.now ≡ true }
-    requires wish_lt_pool { wish.0 < pool }
-    requires wish_value { start_of k wish.0 ≡ wish.0 }
-    requires k_le_largest_order { k ≤ largest_order }
-    ensures { Wished pool frames.now marks.now wish.0 k result }
-{
-    let mut top = k;
-    while top < ORDERS {
-        let start = start_of(wish, top);
-        let starts = starts_by(frames, marks, start, top);
-        if starts {
-            return top;
-        }
-        top += 1;
-    }
-    top
-}
-
-// The order of the free block that holds the block of order k at the wished frame; 11 where no such block is wholly free.
-fn wished(frames: &[u32], pool: u32, wish: Frame, k: u32, marks: &[u32]) -> u32
-    requires frames_value { lawful pool frames.now ≡ true }
-    requires k_le_largest_order { k ≤ largest_order }
-    ensures { Wished pool frames.now marks.now wish.0 k result }
-{
-    let at = wish.0;
-    if pool <= at {
-        return ORDERS;
-    }
-    let word = frames[at as usize];
-    // Most wishes that are not met are for a frame that is held.
-    if word <= LARGEST_OWNER {
-        return ORDERS;
-    }
-    // A smaller free block starts there.
-    if FREE_FIRST <= word {
-        if word < FREE_FIRST + k {
-            return ORDERS;
-        }
-    }
-    let start = start_of(wish, k);
-    if start.0 != at {
-        return ORDERS;
-    }
-    order_around(frames, pool, wish, k, marks)
+    marks.get(k as usize).copied().unwrap_or(0)
 }
 
 // The block of this order at s, in the free block of order `top`.
@@ -165,80 +67,138 @@ fn cut_at(s: Frame, order: u32, top: u32) -> Cut
     }
 }
 
-// The first start of a block of order k, from the one given on, at which the words lent have a free block of that order, or a start past the pool. A loop of its own, so that the compiler keeps it short.
-fn next_first(frames: &[u32], pool: u32, from: u32, k: u32) -> u32
-    requires frames_len { length frames.now ≡ frame_buffer_words }
-    requires pool_le_largest_pool { pool ≤ largest_pool }
-    requires k_le_largest_order { k ≤ largest_order }
-    requires from_value { start_of k from ≡ from }
-    ensures passed_to { PassedTo frames.now k from result }
-    ensures result_value { result < pool → get_or frames.now result 0 ≡ first_of k }
-{
-    let size = size_of(k);
-    let mut f = from;
-    while f < pool {
-        if frames[f as usize] == FREE_FIRST + k {
-            return f;
-        }
-        f += size;
-    }
-    f
+// The frame words that are lent, and the marks of what is chosen of them already.
+#[derive(Clone, Copy)]
+pub struct Lent<'a> {
+    pub frames: &'a [u32],
+    pub pool: u32,
+    pub marks: &'a [u32],
+    ghost sound: { lawful pool frames.now ≡ true },
 }
 
-// The old choice, where no order above `top` can be chosen, earlier searches have shown `known` and the marks say what is taken already; order 11 says that there is none.
-fn search(frames: &[u32], pool: u32, top: u32, known: Bound, marks: &[u32]) -> Cut
-    requires frames_value { lawful pool frames.now ≡ true }
-    requires limit_le_largest_order { known.limit ≤ largest_order }
-    requires top_le_limit { top ≤ known.limit }
-    ensures { Finds pool frames.now marks.now top known result }
-{
-    let limit = known.limit;
-    let found = 'search: loop {
-        for t in 0..limit + 1 {
-            let k = order_at(limit, top, t);
-            let order = least(k, top);
-            let from = scan_from(known, k);
-            let size = size_of(k);
-            // A block of order k starts only at a multiple of its size.
-            let first = start_of(from, k);
-            let mut f = next_first(frames, pool, first.0, k);
-            while f < pool {
-                let gone = is_gone(marks, Frame(f));
-                if !gone {
-                    break 'search cut_at(Frame(f), order, k);
+impl Lent<'_> {
+    // Whether the free block that starts at s in the words lent is left no more.
+    fn is_gone(&self, s: Frame) -> bool
+        requires { s.0 < self.now.pool }
+        ensures { result ≡ gone_at self.now.marks.now s.0 }
+    {
+        let at = s.0;
+        let word = mark_at(self.marks, 1 + at / 32);
+        (word >> (at % 32)) % 2 == 1
+    }
+
+    // Whether a free block of order k starts at s, by the words lent and the marks.
+    fn starts(&self, s: Frame, k: u32) -> bool
+        requires s_lt_pool { s.0 < self.now.pool }
+        requires k_le_largest_order { k ≤ largest_order }
+        ensures { result ≡ starts_by self.now.frames.now self.now.marks.now k s.0 }
+    {
+        self.frames[s.0 as usize] == FREE_FIRST + k && !self.is_gone(s)
+    }
+
+    // The order, from k on, of the free block that holds the wished frame, if one does.
+    fn order_around(&self, wish: Frame, k: u32) -> Option<u32>
+        requires wish_lt_pool { wish.0 < self.now.pool }
+        requires wish_value { start_of k wish.0 ≡ wish.0 }
+        requires k_le_largest_order { k ≤ largest_order }
+        ensures { Wished self.now.pool self.now.frames.now self.now.marks.now wish.0 k result }
+    {
+        (k..ORDERS).find(
+            |&top|
+                requires wish_lt_pool { wish.0 < self.now.pool }
+                requires top_le_largest_order { top ≤ largest_order }
+                ensures { result ≡ starts_by self.entry.now.frames.now self.entry.now.marks.now top (start_of top wish.0) }
+            { self.starts(start_of(wish, top), top) },
+        )
+    }
+
+    // The order of the free block that holds the block of order k at the wished frame, where that is wholly free.
+    fn wished(&self, wish: Frame, k: u32) -> Option<u32>
+        requires { k ≤ largest_order }
+        ensures { Wished self.now.pool self.now.frames.now self.now.marks.now wish.0 k result }
+    {
+        let at = wish.0;
+        if self.pool <= at {
+            return None;
+        }
+        let word = self.frames[at as usize];
+        // Most wishes that are not met are for a frame that is held.
+        if word <= LARGEST_OWNER {
+            return None;
+        }
+        // A smaller free block starts there.
+        if FREE_FIRST <= word && word < FREE_FIRST + k {
+            return None;
+        }
+        let start = start_of(wish, k);
+        if start.0 != at {
+            return None;
+        }
+        self.order_around(wish, k)
+    }
+
+    // The first start of a block of order k, from the one given on, at which the words lent have a free block of that order. A loop of its own, so that the compiler keeps it short.
+    fn next_first(&self, from: u32, k: u32) -> Option<u32>
+        requires k_le_largest_order { k ≤ largest_order }
+        requires from_value { start_of k from ≡ from }
+        ensures there { IfSome result (λ f. (f < self.now.pool) × (get_or self.now.frames.now f 0 ≡ first_of k) × PassedTo self.now.frames.now k from f) }
+        ensures not_there { IfNone result ((f : ℕ) × (self.now.pool ≤ f) × PassedTo self.now.frames.now k from f) }
+    {
+        let size = size_of(k);
+        let mut f = from;
+        // Stays: speed, tried: over `(from..self.pool).step_by(..)` each step tests the end twice, and a scan takes half as long again.
+        while f < self.pool {
+            if self.frames[f as usize] == FREE_FIRST + k {
+                return Some(f);
+            }
+            f += size;
+        }
+        None
+    }
+
+    // The old choice, if there is one, where no order above `top` can be chosen, earlier searches have shown `known` and the marks say what is taken already.
+    fn search(&self, top: u32, known: Bound) -> Option<Cut>
+        requires limit_le_largest_order { known.limit ≤ largest_order }
+        requires top_le_limit { top ≤ known.limit }
+        ensures { Finds self.now.pool self.now.frames.now self.now.marks.now top known result }
+    {
+        let limit = known.limit;
+        'search: {
+            for t in 0..limit + 1 {
+                let k = order_at(limit, top, t);
+                // A block of order k starts only at a multiple of its size.
+                let mut from = start_of(scan_from(known, k), k).0;
+                while let Some(f) = self.next_first(from, k) {
+                    if !self.is_gone(Frame(f)) {
+                        break 'search Some(cut_at(Frame(f), k.min(top), k));
+                    }
+                    from = f + size_of(k);
                 }
-                f = next_first(frames, pool, f + size, k);
+            }
+            None
+        }
+    }
+
+    // The block that is taken with this wish for `left` pages, if there is one, where earlier searches have shown `known` and the marks say what is taken already.
+    pub fn choose(&self, wish: Frame, left: u32, known: Bound) -> Option<Cut>
+        requires le_left { 1 ≤ left }
+        requires limit_le_largest_order { known.limit ≤ largest_order }
+        ensures { Chooses self.now.pool self.now.frames.now self.now.marks.now wish.0 left known result }
+    {
+        // No larger order can be chosen: a wish that is met at this one needs no search.
+        let top = top_order(left, known.limit);
+        if let Some(high) = self.wished(wish, top) {
+            return Some(cut_at(wish, top, high));
+        }
+        let old = self.search(top, known)?;
+        let order = old.block.order;
+        if order < top {
+            if let Some(low) = self.wished(wish, order) {
+                return Some(cut_at(wish, order, low));
             }
         }
-        break cut_at(Frame(0), ORDERS, 0);
-    };
-    found
-}
-
-// The block that is taken with this wish for `left` pages, where earlier searches have shown `known` and the marks say what is taken already; order 11 says that there is none.
-pub fn choose(frames: &[u32], pool: u32, wish: Frame, left: u32, known: Bound, marks: &[u32]) -> Cut
-    requires frames_value { lawful pool frames.now ≡ true }
-    requires le_left { 1 ≤ left }
-    requires limit_le_largest_order { known.limit ≤ largest_order }
-    ensures { Chooses pool frames.now marks.now wish.0 left known result }
-{
-    let limit = known.limit;
-    // No larger order can be chosen: a wish that is met at this one needs no search.
-    let top = top_order(left, limit);
-    let high = wished(frames, pool, wish, top, marks);
-    if high < ORDERS {
-        return cut_at(wish, top, high);
+        Some(old)
     }
-    let old = search(frames, pool, top, known, marks);
-    let b = old.block;
-    let order = b.order;
-    if order < top {
-        let low = wished(frames, pool, wish, order, marks);
-        if low < ORDERS {
-            return cut_at(wish, order, low);
-        }
-    }
-    old
 }
 
 // What is known before the first search.
@@ -285,7 +245,7 @@ pub fn chosen_by(cut: Cut, wish: Frame, left: u32, known: Bound) -> Chosen
     ensures block_value { result.block ≡ cut.block }
     ensures known_value { result.known ≡ bound_after known cut.block wish.0 left }
 {
-    // Start and order are handed on one by one: a copy of the whole block, just after each was written by itself, makes the processor wait.
+    // Stays: speed, tried: start and order are handed on one by one, since a copy of the whole block, just after each was written by itself, makes the processor wait.
     let b = cut.block;
     let start = b.start;
     let order = b.order;

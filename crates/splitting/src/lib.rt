@@ -1,4 +1,5 @@
 // Taking frames by the map rule: choosing a block, and cutting it out of its free block or marking it as chosen.
+// Stays: pool, owner, count and order are numbers with their bounds as clauses: the layers above have read them from words that they judged, and a type for each would be made in one line and taken apart in the next.
 #![tactic(auto)]
 
 mod choosing;

@@ -3,7 +3,7 @@ ghost use Rattle.std.specs.Prelude.{◌≡◌, true, false, ◌<◌, ◌≤◌, 
 ghost use Rattle.blocks.specs.FrameWords.{largest_pool, lawful};
 ghost use Rattle.blocks.specs.Inner.Marks.{mark_words, gone_at, GoneMarked, CutMarked, Previewed, BlockMarked};
 
-use crate::choosing::{choose, chosen_by, mark_at, order_within};
+use crate::choosing::{Lent, chosen_by, mark_at, order_within};
 use blocks::{Block, Bound, Chosen, Cut, Frame};
 
 // Marks that the free block which starts at s in the words lent is left no more.
@@ -15,7 +15,7 @@ fn mark_gone(marks: &mut [u32], s: Frame)
 {
     let at = s.0;
     let word = (1 + at / 32) as usize;
-    marks[word] = marks[word] + (1u32 << (at % 32));
+    marks[word] += 1u32 << (at % 32);
 }
 
 // Marks that the block of the cut is chosen.
@@ -26,11 +26,8 @@ fn mark_cut(marks: &mut [u32], cut: Cut)
     requires start_value { cut.block.order ≡ cut.top → gone_at marks.old cut.block.start.0 ≡ false }
     ensures { CutMarked marks.old cut.block.start.0 cut.block.order cut.top marks.new }
 {
-    let b = cut.block;
-    let start = b.start;
-    let order = b.order;
-    if order == cut.top {
-        mark_gone(marks, start);
+    if cut.block.order == cut.top {
+        mark_gone(marks, cut.block.start);
         return;
     }
     // What is left above the block is more than the pages that are left: they all come from there.
@@ -52,15 +49,20 @@ pub fn mark_block(
     requires previewed { Previewed pool frames.now marks.old wish.0 left known }
     ensures { BlockMarked pool frames.now marks.old wish.0 left known result marks.new }
 {
-    let ahead = mark_at(marks, 0);
-    if ahead != 0 {
+    if mark_at(marks, 0) != 0 {
         let order = order_within(left);
         return Chosen {
             block: Block { start: wish, order },
             known,
         };
     }
-    let cut = choose(frames, pool, wish, left, known, marks);
+    let lent = Lent {
+        frames,
+        pool,
+        marks,
+    };
+    // There is one: as many frames are free as pages are left.
+    let cut = lent.choose(wish, left, known).unwrap();
     mark_cut(marks, cut);
     chosen_by(cut, wish, left, known)
 }

@@ -8,7 +8,7 @@ ghost use Rattle.blocks.specs.Inner.Around.{start_of, other_half};
 ghost use Rattle.blocks.specs.Inner.Taking.{Searched, BlockTaken, FramesTaken};
 ghost use Rattle.blocks.specs.Inner.Passes.{Halved, PartOf, handed};
 
-use crate::choosing::{choose, chosen_by, nothing_known};
+use crate::choosing::{Lent, chosen_by, nothing_known};
 use blocks::{Block, Bound, Chosen, Cut, FREE_FIRST, Frame};
 use framewords::buffer::{count_up, size_of, start_of};
 
@@ -34,11 +34,8 @@ fn halve(frames: &mut [u32], s: Frame, order: u32, top: u32)
     requires top_bound { start_of top s.0 + 2 ^ top ≤ largest_pool }
     ensures { Halved frames.old s.0 order top frames.new }
 {
-    let mut k = order;
-    while k < top {
-        let half = other_half(s, k);
-        frames[half.0 as usize] = FREE_FIRST + k;
-        k += 1;
+    for k in order..top {
+        frames[other_half(s, k).0 as usize] = FREE_FIRST + k;
     }
 }
 
@@ -51,12 +48,10 @@ fn take_at(frames: &mut [u32], pool: u32, cut: Cut, owner: u32)
     ensures { frames.new ≡ frame_words pool (handed (owners_of frames.old) cut.block.order cut.block.start.0 owner) }
 {
     let b = cut.block;
-    let start = b.start;
-    let order = b.order;
-    let s = start.0 as usize;
-    let size = size_of(order) as usize;
+    let s = b.start.0 as usize;
+    let size = size_of(b.order) as usize;
     count_up(frames, s, s + size, owner);
-    halve(frames, start, order, cut.top);
+    halve(frames, b.start, b.order, cut.top);
 }
 
 // Takes the block that the map rule gives with this wish while `left` pages are left, for the owners from `owner` on; earlier searches have shown `known`.
@@ -77,8 +72,13 @@ pub fn take_block(
     ensures { BlockTaken pool frames.old owner wish.0 left result frames.new }
 {
     // One mark, 0, as are those that are not there: what is taken stands in the frame words.
-    let nothing_taken = [0u32; 1];
-    let cut = choose(frames, pool, wish, left, known, &nothing_taken);
+    let lent = Lent {
+        frames,
+        pool,
+        marks: &[0],
+    };
+    // There is one: at least as many frames are free as pages are left.
+    let cut = lent.choose(wish, left, known).unwrap();
     take_at(frames, pool, cut, owner);
     chosen_by(cut, wish, left, known)
 }
@@ -89,9 +89,8 @@ pub fn end_of(b: Block) -> Frame
     requires start_le_largest_pool { b.start.0 ≤ largest_pool }
     ensures { result.0 ≡ end_of b }
 {
-    let start = b.start;
     let size = size_of(b.order);
-    Frame(start.0 + size)
+    Frame(b.start.0 + size)
 }
 
 // Takes out.len() frames for the owners from `owner` on, in page order, by the map rule with this wish; how many blocks that took.
@@ -107,6 +106,7 @@ pub fn take_frames(frames: &mut [u32], pool: u32, owner: u32, wish: Frame, out: 
     let mut blocks: u32 = 0;
     let mut known = nothing_known();
     let mut next = wish;
+    // Stays: a `for` is no plainer: how far a step goes is what take_block answers.
     while done < n {
         let taken = take_block(
             frames,
@@ -117,9 +117,8 @@ pub fn take_frames(frames: &mut [u32], pool: u32, owner: u32, wish: Frame, out: 
             known,
         );
         let b = taken.block;
-        let start = b.start;
         let size = size_of(b.order) as usize;
-        count_up(out, done, done + size, start.0);
+        count_up(out, done, done + size, b.start.0);
         known = taken.known;
         done += size;
         blocks += 1;

@@ -8,19 +8,20 @@ use native.Mathlib.Nat.{zero-add}
 use native.Mathlib.Decide.{dec_lt, ℕ_discrete}
 use native.Mathlib.Omega.{arith}
 use lib.Dec.{eqb}
+use mir.Val.{bool_byte}
 use lib.ListN.{length, get_or, set, length-set}
 use lib.Seq.{get_or-set_same, get_or-set_other}
 use Rattle.words.specs.Tables.{imap}
 use Rattle.words.specs.Counts.{count, one-if}
 use Rattle.words.proofs.Cases.{by-test, by-dec, true-false}
 use Rattle.words.proofs.TableLaws.{length-imap, get_or-imap, is-imap}
-use Rattle.words.proofs.CountLaws.{count-le, one-if-le}
 use Rattle.blocks.specs.declared.Block.{Block}
 use Rattle.blocks.specs.Choice.{frames_of}
 use Rattle.blocks.specs.Owners.{in_span}
 use Rattle.blocks.proofs.Published.{Placed, block-frames}
 use Rattle.runs.specs.PageWords.{mapped, page_word, rights_in, frame_in}
 use Rattle.layout.specs.Changes.{map_word, map_words, unmap_word, unmap_words, mapped_in, protect_word, protect_words, differing}
+use Rattle.steps.specs.Inner.{on_span, RewriteStep, UnmapStep, ProtectStep}
 use Rattle.layout.proofs.ChangeLaws.{span-test, test-span}
 
 -- the words from `first` up to first + n are f of page and old word, and every other is as it was
@@ -34,12 +35,6 @@ pub record Changed (f : ℕ → ℕ → ℕ) (ws : List ℕ) (first n : ℕ) (ys
 
 unfoldable pub mapped_from : ℕ → ℕ → ℕ → ℕ → ℕ → ℕ
 mapped_from first rights f p w = page_word false rights (f + (p - first))
-
-unfoldable pub unmapped : ℕ → ℕ → ℕ
-unmapped p w = 0
-
-unfoldable pub with_rights : ℕ → ℕ → ℕ → ℕ
-with_rights rights p w = page_word false rights (frame_in w)
 
 -- none changed, one more, and all
 
@@ -83,13 +78,9 @@ module _ (ws : List ℕ) (first : ℕ) where
       (λ p w t. let q = test-span first n p t in let lo = q.0 in let hi = q.1 in rw (t, map_word) (ap (page_word false rights) (are (p - first) (omega arith))))
       (λ p w t. rw (t, map_word)) s
 
-  pub all-unmapped : (n : ℕ) (ys : List ℕ) → Changed unmapped ws first n ys → ys ≡ unmap_words ws first n
-  unfolding unmap_words unmap_word unmapped
-  all-unmapped n ys s = change-all unmapped ws first (unmap_word first n) n ys (λ p w t. rw (t, unmap_word)) (λ p w t. rw (t, unmap_word)) s
-
-  pub all-rewritten : (n rights : ℕ) (ys : List ℕ) → Changed (with_rights rights) ws first n ys → ys ≡ protect_words ws first n rights
-  unfolding protect_words protect_word with_rights
-  all-rewritten n rights ys s = change-all (with_rights rights) ws first (protect_word first n rights) n ys (λ p w t. rw (t, protect_word)) (λ p w t. rw (t, protect_word)) s
+  pub all-changed : (word : ℕ → ℕ) (n : ℕ) (ys : List ℕ) → Changed (λ p w. word w) ws first n ys → ys ≡ on_span first n word ws
+  unfolding on_span
+  all-changed word n ys s = change-all (λ p w. word w) ws first (λ p w. elim (in_span first n p) [ true ↦ word w | false ↦ w ]) n ys (λ p w t. rw t refl) (λ p w t. rw t refl) s
 
 -- pages mapped block after block
 
@@ -149,45 +140,28 @@ pub next-mapped : (first rights f k x w : ℕ) → x ≡ page_word false rights 
 unfolding mapped_from
 next-mapped first rights f k x w e = let same : first + k - first ≡ k = omega arith in rw same e
 
-pub next-unmapped : (p w : ℕ) → 0 ≡ unmapped p w
-unfolding unmapped
-next-unmapped p w = refl
-
-pub next-rewritten : (rights p x v w : ℕ) → v ≡ w → x ≡ page_word false rights (frame_in v) → x ≡ with_rights rights p w
-unfolding with_rights
-next-rewritten rights p x v w same e = e ∙ ap (λ (u : ℕ). page_word false rights (frame_in u)) same
-
 -- counts over the span, one word more
 
 module _ (test : ℕ → Bool) (ws : List ℕ) (first : ℕ) where
-  count-step : (k n x v : ℕ) → n ≡ count k (λ t. test (get_or ws (first + t) 0)) → v ≡ get_or ws (first + k) 0 → x ≡ one-if (test v) → n + x ≡ count (k + 1) (λ t. test (get_or ws (first + t) 0))
+  pub count-step : (k n x v : ℕ) → n ≡ count k (λ t. test (get_or ws (first + t) 0)) → v ≡ get_or ws (first + k) 0 → x ≡ one-if (test v) → n + x ≡ count (k + 1) (λ t. test (get_or ws (first + t) 0))
   unfolding count
   count-step k n x v e same d = rw (add-one k, d, e, same) refl
 
-module _ (ws : List ℕ) (first : ℕ) where
-  pub mapped-none : 0 ≡ mapped_in ws first 0
-  unfolding mapped_in count
-  mapped-none = refl
+-- 1 for what counts
 
-  pub mapped-more : (k n x v : ℕ) → n ≡ mapped_in ws first k → v ≡ get_or ws (first + k) 0 → x ≡ one-if (mapped v) → n + x ≡ mapped_in ws first (k + 1)
-  unfolding mapped_in
-  mapped-more k n x v e same d = count-step mapped ws first k n x v e same d
+pub counted : (b c : Bool) (x : ℕ) → x ≡ bool_byte b → b ≡ c → x ≡ one-if c
+unfolding one-if
+counted b c x e same = e ∙ by-test c (λ t. rw (same, t) refl) (λ f. rw (same, f) refl)
 
-  pub mapped-le : (k : ℕ) → mapped_in ws first k ≤ k
-  unfolding mapped_in
-  mapped-le k = count-le k _
+pub byte-le : (b : Bool) → bool_byte b ≤ 1
+byte-le b = by-test b (λ t. rw t (omega arith)) (λ f. rw f (omega arith))
 
-  pub differing-none : (rights : ℕ) → 0 ≡ differing ws first 0 rights
-  unfolding differing count
-  differing-none rights = refl
+-- the two changes
+module _ (ws : List ℕ) (first n r : ℕ) (ws' rs' : List ℕ) where
+  pub as-unmapped : RewriteStep (λ w. 0) mapped ws first n r ws' rs' → UnmapStep ws first n r ws' rs'
+  unfolding on_span mapped_in unmap_words unmap_word
+  as-unmapped x = record { value = x.value; pages = x.pages; ranges = x.ranges }
 
-  pub differing-more : (rights k n x v : ℕ) → n ≡ differing ws first k rights → v ≡ get_or ws (first + k) 0 → x ≡ one-if (not (eqb (rights_in v) rights)) → n + x ≡ differing ws first (k + 1) rights
-  unfolding differing
-  differing-more rights k n x v e same d = count-step (λ (w : ℕ). not (eqb (rights_in w) rights)) ws first k n x v e same d
-
-  pub differing-le : (rights k : ℕ) → differing ws first k rights ≤ k
-  unfolding differing
-  differing-le rights k = count-le k _
-
-pub at_most_one : (b : Bool) (x : ℕ) → x ≡ one-if b → x ≤ 1
-at_most_one b x e = rw e (one-if-le b)
+  pub as-protected : (rights : ℕ) → RewriteStep (λ w. page_word false rights (frame_in w)) (λ w. not (eqb (rights_in w) rights)) ws first n r ws' rs' → ProtectStep ws first n rights r ws' rs'
+  unfolding on_span differing protect_words protect_word
+  as-protected rights x = record { value = x.value; pages = x.pages; ranges = x.ranges }

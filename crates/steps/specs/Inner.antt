@@ -1,5 +1,9 @@
 -- What the steps that alter pages promise, said of one space: ws are its page words, ws' and rs' the page words and range words left.
-use Rattle.std.specs.Prelude.{◌≡◌, List, ℕ}
+use Rattle.std.specs.Prelude.{◌≡◌, Bool, true, false, List, ℕ, ◌+◌, get_or}
+use Rattle.words.specs.Tables.{imap}
+use Rattle.words.specs.Counts.{count}
+use Rattle.blocks.specs.Owners.{in_span}
+use Rattle.steps.specs.declared.rewriting.Change.{Change}
 use Rattle.std.proofs.Math.Option.{Option, none, some}
 use Rattle.blocks.specs.FrameWords.{largest_pool, owners_of, free_in, frame_words}
 use Rattle.blocks.specs.Choice.{frames_for, block_count}
@@ -30,3 +34,17 @@ pub record ProtectStep (ws : List ℕ) (first n rights r : ℕ) (ws' rs' : List 
   pub value : r ≡ differing ws first n rights
   pub pages : ws' ≡ with_bits (protect_words ws first n rights)
   pub ranges : rs' ≡ range_words (protect_words ws first n rights)
+
+-- a call makes `word` of a word, and counts it where `counts` holds of it
+abbrev pub Gives : (ℕ → Change → Type 0) → (ℕ → ℕ) → (ℕ → Bool) → Type 0
+Gives post word counts = (w : ℕ) (c : Change) → post w c → (c.word ≡ word w) × (c.counts ≡ counts w)
+
+-- the words of the span changed
+unfoldable pub on_span : ℕ → ℕ → (ℕ → ℕ) → List ℕ → List ℕ
+on_span first n word ws = imap (λ p w. elim (in_span first n p) [ true ↦ word w | false ↦ w ]) 0 ws
+
+-- n pages from `first` on changed so, and those that count counted
+pub record RewriteStep (word : ℕ → ℕ) (counts : ℕ → Bool) (ws : List ℕ) (first n r : ℕ) (ws' rs' : List ℕ) : Type 0 where
+  pub value : r ≡ count n (λ t. counts (get_or ws (first + t) 0))
+  pub pages : ws' ≡ with_bits (on_span first n word ws)
+  pub ranges : rs' ≡ range_words (on_span first n word ws)

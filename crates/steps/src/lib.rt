@@ -4,9 +4,10 @@
 mod mapping;
 mod previewing;
 mod protecting;
+mod rewriting;
 mod unmapping;
 
-ghost use Rattle.std.specs.Prelude.{◌≡◌, true, ◌+◌, ◌≤◌, length};
+ghost use Rattle.std.specs.Prelude.{◌≡◌, true, ◌+◌, ◌*◌, ◌≤◌, length};
 ghost use Rattle.runs.specs.PageWords.{pages_in_space, last_space, allowed_rights};
 ghost use Rattle.words.specs.Counts.{count};
 ghost use Rattle.blocks.specs.FrameWords.{lawful, owners_of, free_in, frame_words};
@@ -20,7 +21,20 @@ pub use crate::previewing::{Cost, preview_space};
 use crate::protecting::protect_space;
 use crate::unmapping::unmap_space;
 use runs::{PAGE_WORDS, PAGES, Page, RANGE_WORDS};
+use std::ops::Range;
 
+// Where the words of a space stand in a buffer that has N for each.
+fn words_of<const N: usize>(space: u32) -> Range<usize>
+    requires space_le_last_space { space ≤ last_space }
+    requires n_bound { N ≤ 1024 }
+    ensures start { result.start ≡ N * space }
+    ensures end { result.end ≡ N * space + N }
+{
+    let start = N * (space as usize);
+    start..start + N
+}
+
+// Stays: space, first page, count and rights are numbers, and a space's words slices, with their bounds as clauses: a call has just been judged, and a type for a span would be made in one line and taken apart in the next.
 // Maps n pages from `first` on to frames that the map rule takes; how many blocks were taken.
 pub fn map_pages(
     frames: &mut [u32],
@@ -43,15 +57,11 @@ pub fn map_pages(
     ensures frames_after { frames.new ≡ frame_words pool (give (owners_of frames.old) (owner_at space first.0) (frames_for pool (free_in frames.old) (wish_before (space_pages pages.old space) first.0) n)) }
     ensures rewritten { Rewritten space (map_words (space_pages pages.old space) first.0 n rights (frames_for pool (free_in frames.old) (wish_before (space_pages pages.old space) first.0) n)) pages.old ranges.old pages.new ranges.new }
 {
-    let a = (PAGES * space) as usize;
-    let e = a + PAGE_WORDS;
-    let b = RANGE_WORDS * (space as usize);
-    let f = b + RANGE_WORDS;
     let owner = 1 + PAGES * space + first.0;
     map_space(
         frames,
-        &mut pages[a..e],
-        &mut ranges[b..f],
+        &mut pages[words_of::<PAGE_WORDS>(space)],
+        &mut ranges[words_of::<RANGE_WORDS>(space)],
         pool,
         owner,
         first,
@@ -75,11 +85,12 @@ pub fn unmap_pages(
     ensures value { result ≡ mapped_in (space_pages pages.old space) first.0 count }
     ensures rewritten { Rewritten space (unmap_words (space_pages pages.old space) first.0 count) pages.old ranges.old pages.new ranges.new }
 {
-    let a = PAGE_WORDS * (space as usize);
-    let e = a + PAGE_WORDS;
-    let b = RANGE_WORDS * (space as usize);
-    let f = b + RANGE_WORDS;
-    unmap_space(&mut pages[a..e], &mut ranges[b..f], first, count)
+    unmap_space(
+        &mut pages[words_of::<PAGE_WORDS>(space)],
+        &mut ranges[words_of::<RANGE_WORDS>(space)],
+        first,
+        count,
+    )
 }
 
 // Gives `count` pages from `first` on the rights; how many of them had others.
@@ -99,9 +110,11 @@ pub fn protect_pages(
     ensures value { result ≡ differing (space_pages pages.old space) first.0 count rights }
     ensures rewritten { Rewritten space (protect_words (space_pages pages.old space) first.0 count rights) pages.old ranges.old pages.new ranges.new }
 {
-    let a = PAGE_WORDS * (space as usize);
-    let e = a + PAGE_WORDS;
-    let b = RANGE_WORDS * (space as usize);
-    let f = b + RANGE_WORDS;
-    protect_space(&mut pages[a..e], &mut ranges[b..f], first, count, rights)
+    protect_space(
+        &mut pages[words_of::<PAGE_WORDS>(space)],
+        &mut ranges[words_of::<RANGE_WORDS>(space)],
+        first,
+        count,
+        rights,
+    )
 }

@@ -29,16 +29,15 @@ pub fn write_block(part: &mut [u32], first: Page, rights: u32, b: Block)
     let start = b.start;
     let frame = start.0;
     let size = size_of(b.order);
-    let mut k: u32 = 0;
-    while k < size {
+    for k in 0..size {
         let at = (page + k) as usize;
         let f = frame + k;
         part[at] = page_word(false, rights, Frame(f));
-        k += 1;
     }
 }
 
 // The wish for the first block of a map: the frame after that of the page before the span, or one that is no frame of any pool.
+// Stays: take_block and mark_block (frames) take each wish as a frame, and `wish_number` says which frame is none.
 pub fn wish_before(part: &[u32], first: Page) -> Frame
     requires part_len { length part.now ≡ pages_in_space }
     requires first_le_pages_in_space { first.0 ≤ pages_in_space }
@@ -57,6 +56,7 @@ pub fn wish_before(part: &[u32], first: Page) -> Frame
     Frame(frame.0 + 1)
 }
 
+// Stays: `map_blocks`, `preview_blocks` and `take_frames` of the pool go over blocks alike, but what a step does and promises differs (the frame words, marks, a list), so one function over a closure would need three promises for it: no plainer.
 // Takes frames for n pages from the first on, whose owners count up from `owner`, and writes these pages' words; how many blocks were taken.
 fn map_blocks(
     frames: &mut [u32],

@@ -1,18 +1,19 @@
 -- Which words and entries convert: each is 0 or made of a range bit, rights and a frame, and the other is made of the same.
 use mathlib.Core.Path.{◌≡◌, refl, ap, ◌∙◌, sym}
-use mathlib.Core.Bool.{Bool, true, false, ◌&&◌, ◌||◌, not}
+use mathlib.Core.Bool.{Bool, true, false, ◌&&◌, ◌||◌, not, or_assoc}
 use mathlib.Core.Logic.{◌⊎◌, inl, inr}
 use Prim.Native.Nat.{ℕ, ◌+◌, ◌*◌, ◌/◌, ◌%◌, ◌^◌, ◌<◌, ◌≤◌}
 use native.Mathlib.Omega.{arith}
-use lib.Dec.{eqb, ltb}
-use borrow.Author.Tests.{eq-eqb, ne_eqb, eqb-true, eqb-false, ltb-false, le-ltb, le-leb, not-false}
+use native.Mathlib.Decide.{dec_le}
+use lib.Dec.{eqb, ltb, leb}
+use borrow.Author.Tests.{eq-eqb, ne_eqb, eqb-true, eqb-false, ltb-false, le-ltb, le-leb, lt-leb, not-false}
 use Rattle.words.specs.Bits.{has_bit, bit_at}
 use Rattle.words.specs.Counts.{one-if}
 use Rattle.words.specs.Rows.{refusal, values}
 use Rattle.words.specs.Searches.{any_from}
 use Rattle.words.specs.Tables.{tab_from}
 use Rattle.words.proofs.BitLaws.{number, number-bits, none_above, below}
-use Rattle.words.proofs.Cases.{by-test, true-false, or-false, false-or, and-false}
+use Rattle.words.proofs.Cases.{by-test, by-dec, true-false, or-false, false-or, and-false}
 use Rattle.runs.specs.PageWords.{reserved_rights, allowed_rights, page_word, mapped, range_bit, rights_in, frame_in, is_page_word}
 use Rattle.runs.proofs.WordLaws.{allowed-low, allowed-unreserved, allowed-by, mapped-word, word-says, made_word, made-bit, word-parts, frame-lt, zero-unmapped}
 use Rattle.sv39.specs.Entries.{leaf, rights_of, frame_of, further_bit, no_leaf, no_entry, entry_of, no_word, word_of, converted, to_sv39, from_sv39}
@@ -269,3 +270,27 @@ no-word-high e bits h =
 pub low-allowed : (e : ℕ) → allowed_rights (rights_of e) ≡ not (reserved_rights (rights_of e))
 unfolding allowed_rights
 low-allowed e = rw (le-leb _ _ (rights-low e)) refl
+
+-- the tests as the code joins them
+pub entry-test : (w : ℕ) → (w ≡ 0 → ⊥) → (mapped w && not (eqb (rights_in w) 0) && allowed_rights (rights_in w)) ≡ not (no_entry w)
+entry-test w nz =
+    by-test (mapped w)
+    (λ m. by-test (eqb (rights_in w) 0)
+    (λ z. rw (m, z, no-entry-rights w nz m (eqb-true _ _ z)) refl)
+    (λ r. rw (m, r) (allowed-entry w nz m (eqb-false _ _ r))))
+    (λ f. rw (f, no-entry-unmapped w nz f) refl)
+
+pub word-test : (e : ℕ) → (e ≡ 0 → ⊥) → e < 2 ^ 64 → (leb e 4194303 && not (wrong_flags e) && not (eqb (rights_of e) 0) && allowed_rights (rights_of e)) ≡ not (no_word e)
+word-test e nz fits =
+    by-dec (dec_le e 4194303)
+    (λ low. rw (le-leb e 4194303 low, no-word-low e nz (omega arith)) (by-test (wrong_flags e)
+    (λ w. rw w refl)
+    (λ w. by-test (eqb (rights_of e) 0) (λ z. rw (w, z) refl) (λ z. rw (w, z) (low-allowed e)))))
+    (λ high. rw (lt-leb e 4194303 (omega arith), no-word-high e fits (omega arith)) refl)
+
+pub flags-test : (e : ℕ) → (not (has_bit e 0) || not (has_bit e 6) || not (has_bit e 7) || has_bit e 4 || has_bit e 5 || has_bit e 9) ≡ wrong_flags e
+unfolding wrong_flags
+flags-test e = or-chain (not (has_bit e 0)) (not (has_bit e 6)) (not (has_bit e 7)) (has_bit e 4) (has_bit e 5) (has_bit e 9)
+  where
+    or-chain : (a b c d g h : Bool) → (a || b || c || d || g || h) ≡ (a || (b || (c || (d || (g || h)))))
+    or-chain a b c d g h = or_assoc (a || b || c || d) g h ∙ or_assoc (a || b || c) d (g || h) ∙ or_assoc (a || b) c (d || (g || h)) ∙ or_assoc a b (c || (d || (g || h)))

@@ -5,60 +5,41 @@ mod entries;
 
 ghost use Rattle.std.specs.Prelude.{◌≡◌};
 ghost use Rattle.words.specs.Places.{Given};
-ghost use Rattle.words.specs.Rows.{refusal, values};
+ghost use Rattle.words.specs.Answers.{outcome};
 ghost use Rattle.sv39.specs.Entries.{to_sv39, from_sv39};
 
 use crate::entries::{frame_of, has_entry, has_word, in_range, leaf, rights_of};
 use ranges::page_words::{frame_in, page_word, range_bit, rights_in};
-use words::Outcome;
+use words::answers::{Answer, Refused, Values, outcome};
 use words::places::give;
 
-// The answer that has the counterpart.
-fn found(counterpart: u32) -> Outcome
-    ensures { result ≡ values counterpart 0 }
-{
-    Outcome {
-        number: 0,
-        first: counterpart,
-        second: 0,
-    }
-}
-
-// The answer where there is none.
-fn none() -> Outcome
-    ensures { result ≡ refusal 18 }
-{
-    Outcome {
-        number: 18,
-        first: 0,
-        second: 0,
-    }
-}
-
+// Stays: each way has tests and parts of its own, so one function for both would take them all as arguments: no plainer.
 // The entry of a page word, as first value. Refused: 18.
-pub fn to_sv39(word: u32) -> Outcome
-    ensures { result ≡ to_sv39 word }
+pub fn to_sv39(word: u32) -> Answer
+    ensures { outcome result ≡ to_sv39 word }
 {
     if word == 0 {
-        return found(0);
+        return Ok(Values::from(0));
     }
     if !has_entry(word) {
-        return none();
+        return Err(Refused::NoCounterpart);
     }
-    found(leaf(range_bit(word), rights_in(word), frame_in(word)))
+    let entry = leaf(range_bit(word), rights_in(word), frame_in(word));
+    Ok(Values::from(entry))
 }
 
 // The page word of an entry, as first value. Refused: 18.
-pub fn from_sv39(entry: u64) -> Outcome
-    ensures { result ≡ from_sv39 entry }
+pub fn from_sv39(entry: u64) -> Answer
+    ensures { outcome result ≡ from_sv39 entry }
 {
     if entry == 0 {
-        return found(0);
+        return Ok(Values::from(0));
     }
     if !has_word(entry) {
-        return none();
+        return Err(Refused::NoCounterpart);
     }
-    found(page_word(in_range(entry), rights_of(entry), frame_of(entry)))
+    let word = page_word(in_range(entry), rights_of(entry), frame_of(entry));
+    Ok(Values::from(word))
 }
 
 // `to_sv39` for C and Rust: the number is returned, the values go into a lent place. Refused: 1, 18.
@@ -66,7 +47,8 @@ pub fn from_sv39(entry: u64) -> Outcome
 pub extern "C" fn yavrestom_to_sv39(word: u32, values: &mut [u32]) -> u32
     ensures { Given (to_sv39 word) values.old result values.new }
 {
-    give(values, to_sv39(word))
+    let entry = outcome(to_sv39(word));
+    give(values, entry)
 }
 
 // `from_sv39` for C and Rust, in the same way. Refused: 1, 18.
@@ -74,5 +56,6 @@ pub extern "C" fn yavrestom_to_sv39(word: u32, values: &mut [u32]) -> u32
 pub extern "C" fn yavrestom_from_sv39(entry: u64, values: &mut [u32]) -> u32
     ensures { Given (from_sv39 entry) values.old result values.new }
 {
-    give(values, from_sv39(entry))
+    let word = outcome(from_sv39(entry));
+    give(values, word)
 }

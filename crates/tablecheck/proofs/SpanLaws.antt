@@ -1,12 +1,14 @@
 -- Spans of pages, and the mapped pages in them.
-use mathlib.Core.Path.{◌≡◌, refl, ap, sym, ◌∙◌, fun_ext}
-use mathlib.Core.Bool.{Bool, true, false, beq, not}
-use mathlib.Core.List.{List}
-use Prim.Native.Nat.{ℕ, zero, suc, ◌+◌, ◌-◌, ◌*◌, ◌≤◌}
+use mathlib.Core.Path.{◌≡◌, refl, sym, ◌∙◌}
+use mathlib.Core.Bool.{Bool, true, false, ◌&&◌, ◌||◌}
+use mathlib.Core.List.{List, ◌∷◌}
+use Prim.Native.Nat.{ℕ, zero, suc, ◌+◌, ◌-◌, ◌*◌, ◌<◌, ◌≤◌}
 use native.Mathlib.Decide.{dec_le}
 use native.Mathlib.Omega.{arith}
 use lib.Dec.{leb}
-use lib.ListN.{get_or, take, drop}
+use lib.ListN.{length, get_or, take, drop}
+use Rattle.std.proofs.lemmas.List.{drop_more}
+use Rattle.std.specs.List.{list_all, list_any}
 use borrow.Author.Tests.{leb-true, le-leb, lt-leb}
 use Rattle.words.specs.Tables.{part}
 use Rattle.words.specs.Searches.{all_from, any_from}
@@ -14,7 +16,7 @@ use Rattle.words.proofs.Cases.{by-test, by-dec, and-true, true-and}
 use Rattle.runs.specs.PageWords.{mapped}
 use Rattle.layout.specs.Tables.{Tables, space_pages}
 use Rattle.layout.specs.Calls.{is_span, mapped_at}
-use Rattle.tablecheck.specs.Inner.{page_mapped, mapped_is}
+use Rattle.tablecheck.specs.Inner.{page_mapped}
 
 -- a span
 
@@ -39,25 +41,29 @@ module _ (f n : ℕ) where
 
 -- mapped pages
 
-pub page-is : (ws : List ℕ) (p : ℕ) (r v : Bool) → r ≡ mapped (get_or ws p 0) → mapped_is ws v p ≡ beq r v
-unfolding page_mapped
-page-is ws p r v e = ap (λ (b : Bool). beq b v) (sym e)
+-- the words of a span, as one part
 
-is_true : (b : Bool) → beq b true ≡ b
-is_true true = refl
-is_true false = refl
+one_of_all : (b x y : Bool) → x ≡ y → (b && x) ≡ elim b [ true ↦ y | false ↦ false ]
+one_of_all true x y e = e
+one_of_all false x y e = refl
 
-pub all_are : (n i : ℕ) (ws : List ℕ) → all_from n i (mapped_is ws true) ≡ all_from n i (page_mapped ws)
-all_are n i ws = ap (all_from n i) (fun_ext (λ p. is_true (page_mapped ws p)))
+one_of_any : (b x y : Bool) → x ≡ y → (b || x) ≡ elim b [ true ↦ true | false ↦ y ]
+one_of_any true x y e = refl
+one_of_any false x y e = e
 
-one_more : (b x y : Bool) → not x ≡ y → not (elim (beq b false) [ true ↦ x | false ↦ false ]) ≡ elim b [ true ↦ true | false ↦ y ]
-one_more true x y e = refl
-one_more false x y e = e
+module _ (ws : List ℕ) where
+  step : (i : ℕ) → i < length ws → drop i ws ≡ get_or ws i 0 ∷ drop (suc i) ws
+  step i h = let e : i + 1 ≡ suc i = omega arith in rw e at (drop_more ws i 0 h)
 
-pub any-is : (n i : ℕ) (ws : List ℕ) → not (all_from n i (mapped_is ws false)) ≡ any_from n i (page_mapped ws)
-unfolding all_from any_from
-any-is zero i ws = refl
-any-is (suc n) i ws = one_more (page_mapped ws i) _ _ (any-is n (suc i) ws)
+  pub list_all-from : (n i : ℕ) → i + n ≤ length ws → list_all mapped (take n (drop i ws)) ≡ all_from n i (page_mapped ws)
+  unfolding all_from page_mapped
+  list_all-from zero i h = refl
+  list_all-from (suc n) i h = rw (step i (omega arith)) (one_of_all (mapped (get_or ws i 0)) _ _ (list_all-from n (suc i) (omega arith)))
+
+  pub list_any-from : (n i : ℕ) → i + n ≤ length ws → list_any mapped (take n (drop i ws)) ≡ any_from n i (page_mapped ws)
+  unfolding any_from page_mapped
+  list_any-from zero i h = refl
+  list_any-from (suc n) i h = rw (step i (omega arith)) (one_of_any (mapped (get_or ws i 0)) _ _ (list_any-from n (suc i) (omega arith)))
 
 -- a space's part of the page buffer as it is lent
 pub lent-mapped : (T : Tables) (s a e : ℕ) → a ≡ 1024 * s → e ≡ a + 1024 → page_mapped (take (e - a) (drop a T.pages)) ≡ mapped_at T s

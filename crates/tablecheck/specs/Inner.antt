@@ -1,6 +1,5 @@
 -- What the steps of the table check decide.
 use Rattle.std.specs.Prelude.{◌≡◌, Bool, ◌&&◌, ◌||◌, not, List, ℕ, ◌+◌, ◌*◌, ◌<◌, get_or}
-use Rattle.std.specs.Bool.{beq}
 use Rattle.words.specs.Searches.{every}
 use Rattle.runs.specs.PageWords.{pages_in_space, mapped}
 use Rattle.runs.specs.Walk.{lawful_ranges}
@@ -11,10 +10,6 @@ use Rattle.layout.specs.Tables.{space_pages, space_ranges}
 -- page p is mapped, by a space's words
 unfoldable pub page_mapped : List ℕ → ℕ → Bool
 page_mapped ws p = mapped (get_or ws p 0)
-
--- page p is mapped, or where v is false, unmapped
-abbrev pub mapped_is : List ℕ → Bool → ℕ → Bool
-mapped_is ws v p = beq (page_mapped ws p) v
 
 -- page word w at place i of the page buffer: mapped in an open space only, and then the word of its frame names place i
 unfoldable pub page_fits : Bool → List ℕ → ℕ → ℕ → ℕ → Bool

@@ -1,9 +1,10 @@
 // Spans of pages, and their mapped pages. The caller lends one space's 1,024 page words.
-ghost use Rattle.std.specs.Prelude.{◌≡◌, ◌+◌, ◌≤◌, length};
-ghost use Rattle.runs.specs.PageWords.{pages_in_space};
+ghost use Rattle.std.specs.Prelude.{◌≡◌, ◌+◌, ◌≤◌, length, take, drop};
+ghost use Rattle.std.specs.List.{list_any, list_all};
+ghost use Rattle.runs.specs.PageWords.{pages_in_space, mapped};
 ghost use Rattle.words.specs.Searches.{all_from, any_from};
 ghost use Rattle.layout.specs.Calls.{is_span};
-ghost use Rattle.tablecheck.specs.Inner.{page_mapped, mapped_is};
+ghost use Rattle.tablecheck.specs.Inner.{page_mapped};
 
 use ranges::page_words::mapped;
 use runs::PAGES;
@@ -12,30 +13,28 @@ use runs::PAGES;
 pub fn is_span(first: u32, count: u32) -> bool
     ensures { result ≡ is_span first count }
 {
-    if count < 1 {
-        return false;
-    }
-    if PAGES < count {
-        return false;
-    }
-    first <= PAGES - count
+    1 <= count && count <= PAGES && first <= PAGES - count
 }
 
-// Whether every page of the span is mapped, or where `v` is false, none.
-fn all_are(part: &[u32], first: u32, count: u32, v: bool) -> bool
+// The words of the span's pages.
+fn span(part: &[u32], first: u32, count: u32) -> &[u32]
     requires part_len { length part.now ≡ pages_in_space }
     requires count_bound { first + count ≤ pages_in_space }
-    ensures { result ≡ all_from count first (mapped_is part.now v) }
+    ensures { result.now ≡ take count (drop first part.now) }
 {
-    let end = first + count;
-    let mut p = first;
-    while p < end {
-        if mapped(part[p as usize]) != v {
-            return false;
-        }
-        p += 1;
-    }
-    true
+    &part[first as usize..(first + count) as usize]
+}
+
+fn any_in(words: &[u32]) -> bool
+    ensures { result ≡ list_any mapped words.now }
+{
+    words.iter().any(|w| mapped(*w))
+}
+
+fn all_in(words: &[u32]) -> bool
+    ensures { result ≡ list_all mapped words.now }
+{
+    words.iter().all(|w| mapped(*w))
 }
 
 // Whether a page of the span is mapped.
@@ -44,7 +43,7 @@ pub fn any_mapped(part: &[u32], first: u32, count: u32) -> bool
     requires count_bound { first + count ≤ pages_in_space }
     ensures { result ≡ any_from count first (page_mapped part.now) }
 {
-    !all_are(part, first, count, false)
+    any_in(span(part, first, count))
 }
 
 // Whether every page of the span is mapped.
@@ -53,5 +52,5 @@ pub fn all_mapped(part: &[u32], first: u32, count: u32) -> bool
     requires count_bound { first + count ≤ pages_in_space }
     ensures { result ≡ all_from count first (page_mapped part.now) }
 {
-    all_are(part, first, count, true)
+    all_in(span(part, first, count))
 }

@@ -1,15 +1,16 @@
 -- A turn of the run: one unfolding of the listing, with the lines and the bytes in their buffers.
-use Rattle.std.specs.Prelude.{◌≡◌, Bool, false, cond, List, [], ℕ, ◌+◌, ◌≤◌, ◌<◌, length, drop}
+use Rattle.std.specs.Prelude.{◌≡◌, Bool, false, cond, List, [], ℕ, ◌+◌, ◌≤◌, ◌<◌, length, drop, Option, Some, None}
 use Rattle.words.specs.Rows.{refusal}
 use Rattle.layout.specs.Tables.{Tables}
 use Rattle.records.specs.declared.Next.{Next}
 use Rattle.records.specs.declared.Next.TheVariants.{End, Cut, Whole}
 use Rattle.trace.specs.declared.State.{State}
-use Rattle.trace.specs.declared.Turn.{Turn}
+use Rattle.trace.specs.declared.turns.Turn.{Turn}
 use Rattle.recordcalls.specs.declared.TwoUnits.{TwoUnits}
+use Rattle.recordcalls.specs.declared.Shown.{Shown}
 use Rattle.records.specs.Input.{waiting, standing, next_of, behind}
 use Rattle.records.specs.Lines.{written, longest_line, line}
-use Rattle.recordcalls.specs.Steps.{needs_unit}
+use Rattle.recordcalls.specs.Steps.{fresh_units, needs_unit}
 use Rattle.trace.specs.Listing.{Came, last}
 
 -- what the bytes that wait show is put behind the held lines, the number rises by one and the window moves behind the record, so that the bytes behind it wait
@@ -21,6 +22,11 @@ pub record Turned (T : Tables) (p : TwoUnits) (s : State) (buffer lines : List �
   pub number : s'.number ≡ s.number + 1
   pub window : s'.window ≡ behind s.window buffer
   pub rest : waiting s'.window buffer ≡ drop (standing (waiting s.window buffer)) (waiting s.window buffer)
+
+-- a turn taken beside the units: whatever they are, they stay or become fresh
+pub record TurnedBeside (T : Tables) (s : State) (buffer lines : List ℕ) (T' : Tables) (s' : State) (lines' : List ℕ) : Type 0 where
+  pub renews : Bool
+  pub turned : (p : TwoUnits) → Turned T p s buffer lines T' (cond renews fresh_units p) s' lines'
 
 -- the window and the held lines lie in their buffers
 pub record Lies (s : State) (buffer lines : List ℕ) : Type 0 where
@@ -34,16 +40,21 @@ pub record Ready (s : State) (buffer lines : List ℕ) : Type 0 where
   pub room : s.held + longest_line ≤ length lines
   pub below : s.number < last
 
+-- "input cut short: kind 0, answer 16"
+abbrev pub cut_short : Shown
+cut_short = record { kind = 0; outcome = refusal 16 }
+
 -- the turn that stops, at the end with no line and at a cut with one
-unfoldable pub stopped : Bool → Turn
-stopped shows = record { shows = shows; kind = 0; outcome = refusal 16; goes = false }
+abbrev pub stopped : Option Shown → Turn
+stopped shown = record { shown = shown; goes = false }
 
 -- the bytes that a turn shows
-unfoldable pub shown_of : ℕ → Turn → List ℕ
-shown_of number t = cond t.shows (line number t.kind t.outcome) []
+abbrev pub line_of : ℕ → Option Shown → List ℕ
+line_of number None = []
+line_of number (Some s) = line number s.kind s.outcome
 
 -- whether what comes next asks for a call that is lent a unit
-unfoldable pub wants_unit : Next → Bool
+abbrev pub wants_unit : Next → Bool
 wants_unit End = false
 wants_unit Cut = false
 wants_unit (Whole m) = needs_unit m

@@ -2,10 +2,10 @@
 use Rattle.std.specs.Prelude.{◌≡◌, Bool, true, false, List, [], ◌++◌, ℕ, ◌+◌, ◌<◌, drop}
 use Rattle.words.specs.Rows.{refusal}
 use Rattle.layout.specs.Tables.{Tables, zeroed}
-use Rattle.records.specs.declared.Meaning.{Meaning}
+use Rattle.records.specs.Records.{Meaning}
 use Rattle.records.specs.declared.Next.{Next}
 use Rattle.records.specs.declared.Next.TheVariants.{End, Cut, Whole}
-use Rattle.recordcalls.specs.declared.Step.{Step}
+use Rattle.recordcalls.specs.declared.Shown.{Shown}
 use Rattle.recordcalls.specs.declared.TwoUnits.{TwoUnits}
 use Rattle.records.specs.Input.{standing, next_of}
 use Rattle.records.specs.Lines.{line, header}
@@ -18,7 +18,7 @@ pub data Came (T : Tables) (p : TwoUnits) (number : ℕ) : Next → List ℕ →
   -- "input cut short: kind 0, answer 16; a cut also stops"
   cut : Came T p number Cut (line number 0 (refusal 16)) T p false
   -- "Each further line, one for each record and parted by single spaces: record number from 1, kind, answer, first, second"
-  taken : {m : Meaning} {s : Step} {T' : Tables} → RecordTaken T p m s T' → Came T p number (Whole m) (line number s.kind s.outcome) T' s.units true
+  taken : {m : Meaning} {s : Shown} {T' : Tables} {p' : TwoUnits} → RecordTaken T p m s T' p' → Came T p number (Whole m) (line number s.kind s.outcome) T' p' true
 
 -- a record's number has 64 bits, so the program would end before this record
 abbrev pub last : ℕ

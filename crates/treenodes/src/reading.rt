@@ -1,47 +1,39 @@
 // The words of a node.
-ghost use Rattle.std.specs.Prelude.{◌≡◌, ◌≤◌, length};
-ghost use Rattle.trees.specs.Nodes.{leaf_word, root_in, count_in, leaf_in, range_in, child_in};
+// Stays: a node's number is a plain number, with its bound in a clause. A type of numbers up to 63 is no plainer: with no level left, below a leaf, any number stands for no node, and the functions that call each other take it.
+ghost use Rattle.std.specs.Prelude.{◌≡◌, ◌≤◌};
+ghost use Rattle.trees.specs.Nodes.{root_in, count_in, leaf_in, range_in, child_in};
 ghost use Rattle.trees.specs.Inner.Walk.{kids};
+ghost use Rattle.trees.specs.Inner.Places.{FirstPlace};
 
-use trees::Range;
-
-// A word as a place in memory.
-pub fn index(x: u32) -> usize
-    ensures { result ≡ x }
-{
-    x as usize
-}
+use trees::{Buffer, Range};
 
 // The root's number, 64 if the tree is empty.
-pub fn root_at(tree: &[u32]) -> usize
-    requires { length tree.now ≡ 1537 }
+pub fn root_at(tree: &Buffer) -> usize
     ensures { result ≡ root_in tree.now }
 {
-    index(tree[0])
+    tree[0] as usize
 }
 
 // The range count of node n.
-pub fn count_at(tree: &[u32], n: usize) -> usize
-    requires tree_len { length tree.now ≡ 1537 }
-    requires n_bound { n ≤ 63 }
+pub fn count_at(tree: &Buffer, n: usize) -> usize
+    requires { n ≤ 63 }
     ensures { result ≡ count_in tree.now n }
 {
-    index(tree[1 + n * 24])
+    tree[1 + n * 24] as usize
 }
 
 // 1 for a leaf, or else 0.
-pub fn leaf_at(tree: &[u32], n: usize) -> u32
-    requires tree_len { length tree.now ≡ 1537 }
-    requires n_bound { n ≤ 63 }
+// Stays: the word as it is, and no bool: an unlawful buffer may hold any number here (`leaf_in`), and `node_fits` refuses all but these two.
+pub fn leaf_at(tree: &Buffer, n: usize) -> u32
+    requires { n ≤ 63 }
     ensures { result ≡ leaf_in tree.now n }
 {
     tree[1 + n * 24 + 1]
 }
 
 // Range i of node n.
-pub fn range_at(tree: &[u32], n: usize, i: usize) -> Range
-    requires tree_len { length tree.now ≡ 1537 }
-    requires n_bound { (n ≤ 63) × (i ≤ 3) }
+pub fn range_at(tree: &Buffer, n: usize, i: usize) -> Range
+    requires { (n ≤ 63) × (i ≤ 3) }
     ensures { result ≡ range_in tree.now n i }
 {
     let at = 1 + n * 24 + 2 + i * 4;
@@ -54,22 +46,26 @@ pub fn range_at(tree: &[u32], n: usize, i: usize) -> Range
 }
 
 // Child i of node n.
-pub fn child_at(tree: &[u32], n: usize, i: usize) -> usize
-    requires tree_len { length tree.now ≡ 1537 }
-    requires n_bound { (n ≤ 63) × (i ≤ 4) }
+pub fn child_at(tree: &Buffer, n: usize, i: usize) -> usize
+    requires { (n ≤ 63) × (i ≤ 4) }
     ensures { result ≡ child_in tree.now n i }
 {
-    index(tree[1 + n * 24 + 18 + i])
+    tree[1 + n * 24 + 18 + i] as usize
 }
 
-// 1 for a leaf or else 0.
-pub fn leaf_word(leaf: bool) -> u32
-    ensures { result ≡ leaf_word leaf }
+// The place of the first range of node n that passes, or the place behind its ranges.
+pub fn first_place<F: Fn(Range) -> bool>(tree: &Buffer, n: usize, passes: F) -> usize
+    requires n_bound { (n ≤ 63) × (count_in tree.now n ≤ 4) }
+    requires callable { F.IsAlwaysCallable passes }
+    ensures { FirstPlace (F.post passes) (range_in tree.now n) (count_in tree.now n) result }
 {
-    if leaf {
-        return 1;
+    let count = count_at(tree, n);
+    for i in 0..count {
+        if passes(range_at(tree, n, i)) {
+            return i;
+        }
     }
-    0
+    count
 }
 
 // How many children a node of so many ranges has.
@@ -77,8 +73,5 @@ pub fn kid_count(leaf: bool, count: usize) -> usize
     requires { count ≤ 4 }
     ensures { result ≡ kids leaf count }
 {
-    if leaf {
-        return 0;
-    }
-    count + 1
+    if leaf { 0 } else { count + 1 }
 }

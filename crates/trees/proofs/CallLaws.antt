@@ -6,14 +6,14 @@ use Prim.Native.Nat.{ℕ, zero, suc, ◌+◌, ◌≤◌, ◌<◌}
 use native.Mathlib.Omega.{arith}
 use lib.Dec.{leb, ltb, eqb}
 use lib.ListN.{length}
-use borrow.Author.Tests.{lt-ltb, le-ltb, eq-eqb, ne_eqb, eqb-true, eqb-false, ltb-true, ltb-false, leb-true, leb-false, not-true}
-use Rattle.words.specs.declared.Outcome.{Outcome}
+use borrow.Author.Tests.{lt-ltb, le-ltb, eq-eqb, ne_eqb, eqb-true, eqb-false, ltb-false, leb-true, leb-false, not-true}
 use Rattle.words.specs.Refusals.{Refusal, decide}
 use Rattle.words.specs.Rows.{Row, refusal, values, number_of, Promised}
 use Rattle.words.proofs.Cases.{by-test, and-true, or-false, true-false}
 use Rattle.words.proofs.RefusalLaws.{first_part}
 use Rattle.words.proofs.RowLaws.{refused-is, accepted-is, kept, renewed}
 use Rattle.runs.specs.PageWords.{reserved_rights, allowed_rights}
+use Rattle.std.specs.Prelude.{Option, Some}
 use Rattle.trees.specs.declared.Range.{Range}
 use Rattle.trees.specs.declared.Path.{Path}
 use Rattle.trees.specs.Ranges.{covers, page_value, look_list, held, holds_base, overlaps, misplaced, beside_refusals, proper}
@@ -23,11 +23,11 @@ use Rattle.trees.specs.Insertion.{insert_tree}
 use Rattle.trees.specs.Removal.{remove_tree}
 use Rattle.trees.specs.Calls.{buffer_refusals, past_pages, insert_call, remove_call, lookup_call}
 use Rattle.trees.specs.Inner.Walk.{lawful}
-use Rattle.trees.specs.Inner.Search.{first_behind, begins_at, search_tree}
-use Rattle.trees.proofs.RangeLaws.{covered, page-in, look-held}
+use Rattle.trees.specs.Inner.Search.{first_behind, begins_at, has_page, begins_before, search_tree}
+use Rattle.trees.proofs.RangeLaws.{look-held}
 use Rattle.trees.proofs.LawfulLaws.{lawful-between, lawful-proper, lawful-range}
 use Rattle.trees.proofs.SearchLaws.{tree-path}
-use Rattle.trees.proofs.ContentsLaws.{behind-held, behind-value, behind-not-held, behind-base, behind-no-base, behind-meets, behind-apart}
+use Rattle.trees.proofs.ContentsLaws.{behind-held, behind-value, behind-base, behind-overlaps}
 
 -- A row that is refused with n, or done
 
@@ -38,9 +38,6 @@ refused-row w old n e z =
 
 done-row : {A : Type 0} (w : Row A) (old left : A) → number_of w ≡ 0 → left ≡ w.new → Promised w old (values w.first w.second) left
 done-row w old left e d = record { answers = sym (accepted-is w e); leaves-new = d ∙ renewed (number_of w) w.new old e }
-
-pub number-of : (o : Outcome) (n : ℕ) → o ≡ refusal n → o.number ≡ n
-number-of o n e = ap (λ (x : Outcome). x.number) e
 
 -- The buffer
 
@@ -165,15 +162,9 @@ module _ (b : List ℕ) (size : length b ≡ 1537) (is : lawful b ≡ true) wher
     unfolding misplaced
     some-pages = let h : r.base + 8 ≤ r.limit = ltb-false r.limit (r.base + 8) (or-false (ltb r.limit (r.base + 8)) _ m).0 in omega arith
 
-    search-meets : (w.range.limit ≡ 0 → ⊥) → w.range.base < r.limit → overlaps r (contents_of b) ≡ true
-    search-meets z h = behind-meets (lawful-between b is) w.range r (first-is r.base w found) some-pages z h
-
-    pub search-apart : ((w.range.limit ≡ 0 → ⊥) → r.limit ≤ w.range.base) → overlaps r (contents_of b) ≡ false
-    search-apart h = behind-apart (lawful-between b is) w.range r (first-is r.base w found) some-pages h
-
     -- where some range is behind the BASE, its own BASE decides
-    pub overlap-by : (w.range.limit ≡ 0 → ⊥) → ltb w.range.base r.limit ≡ overlaps r (contents_of b)
-    overlap-by z = by-test (ltb w.range.base r.limit) (λ t. t ∙ sym (search-meets z (ltb-true _ _ t))) (λ f. f ∙ sym (search-apart (λ n. ltb-false _ _ f)))
+    pub overlap-by : begins_before w.range r.limit ≡ overlaps r (contents_of b)
+    overlap-by = sym (behind-overlaps (lawful-between b is) w.range r (first-is r.base w found) some-pages)
 
   -- Removal
 
@@ -188,18 +179,11 @@ module _ (b : List ℕ) (size : length b ≡ 1537) (is : lawful b ≡ true) wher
       remove-number false e = goes_on b _ size is ∙ (unfold decide in rw (le-ltb 1023 base low, e))
 
       pub remove-none : begins_at w.range base ≡ false → Promised (remove_call b base) b (refusal 12) b
-      unfolding begins_at
-      remove-none f =
-          refused-row (remove_call b base) b 12
-          (remove-number false (behind-no-base (lawful-between b is) w.range base (first-is base w found) (λ some at. true-false true refl (rw (ne_eqb w.range.limit 0 some, eq-eqb w.range.base base at) at f))))
-          (λ z. omega arith)
+      remove-none f = refused-row (remove_call b base) b 12 (remove-number false (behind-base (lawful-between b is) w.range base (first-is base w found) ∙ f)) (λ z. omega arith)
 
       module _ (t : begins_at w.range base ≡ true) where
         remove-held : holds_base base (contents_of b) ≡ true
-        unfolding begins_at
-        remove-held =
-            let x = and-true (not (eqb w.range.limit 0)) (eqb w.range.base base) t in
-            behind-base (lawful-between b is) w.range base (first-is base w found) (eqb-false _ _ (not-true (eqb w.range.limit 0) x.0)) (eqb-true _ _ x.1)
+        remove-held = behind-base (lawful-between b is) w.range base (first-is base w found) ∙ t
 
         pub remove-high : 1 ≤ height_of b
         unfolding contents_of
@@ -225,23 +209,20 @@ module _ (b : List ℕ) (size : length b ≡ 1537) (is : lawful b ≡ true) wher
       lookup-number true e = goes_on b _ size is ∙ (unfold decide in rw (le-ltb 1023 p low, e))
       lookup-number false e = goes_on b _ size is ∙ (unfold decide in rw (le-ltb 1023 p low, e))
 
-      pub lookup-none : covers w.range p ≡ false → Promised (lookup_call b p) b (refusal 12) b
-      lookup-none c = refused-row (lookup_call b p) b 12 (lookup-number false (behind-not-held (lawful-between b is) w.range p (first-is p w found) (outside w.range c))) (λ z. omega arith)
-        where
-          outside : (r : Range) → covers r p ≡ false → r.base ≤ p → r.limit ≤ p
-          outside r e h = by-test (ltb p r.limit) (λ t. true-false (covers r p) (covered r p h (ltb-true _ _ t)) e) (λ t. ltb-false _ _ t)
+      pub lookup-none : has_page w.range p ≡ false → Promised (lookup_call b p) b (refusal 12) b
+      lookup-none c = refused-row (lookup_call b p) b 12 (lookup-number false (behind-held (lawful-between b is) w.range p (first-is p w found) ∙ c)) (λ z. omega arith)
 
-      module _ (c : covers w.range p ≡ true) where
+      module _ (x : Range) (some : w.range ≡ Some x) (c : covers x p ≡ true) where
         found-held : held (contents_of b) p ≡ true
-        found-held = let k = page-in w.range p c in behind-held (lawful-between b is) w.range p (first-is p w found) k.0 k.1
+        found-held = behind-held (lawful-between b is) w.range p (first-is p w found) ∙ ap (λ (o : Option Range). has_page o p) some ∙ (unfold has_page in c)
 
-        found-value : look_list (contents_of b) p ≡ page_value w.range p
-        found-value = let k = page-in w.range p c in behind-value (lawful-between b is) w.range p (first-is p w found) k.0 k.1
+        found-value : look_list (contents_of b) p ≡ page_value x p
+        found-value = behind-value (lawful-between b is) w.range p (first-is p w found) x some c
 
-        pub value-fits : page_value w.range p < 32768
+        pub value-fits : page_value x p < 32768
         value-fits = let l = look-held p (lawful-proper b is) found-held in let e = found-value in omega arith
 
-        pub lookup-done : (v : ℕ) → v ≡ page_value w.range p → Promised (lookup_call b p) b (values v w.nodes) b
+        pub lookup-done : (v : ℕ) → v ≡ page_value x p → Promised (lookup_call b p) b (values v w.nodes) b
         lookup-done v e =
             let a : v ≡ look_list (contents_of b) p = e ∙ sym found-value in
             let n : w.nodes ≡ path_length p (height_of b) (tree_at b (height_of b) (root_in b)) = ap (λ (x : Path). x.nodes) found ∙ tree-path (height_of b) (tree_at b (height_of b) (root_in b)) p in

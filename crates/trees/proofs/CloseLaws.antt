@@ -4,7 +4,7 @@ use Prim.Native.Nat.{ℕ, zero, suc, ◌+◌, ◌-◌, ◌≤◌, ◌<◌}
 use native.Mathlib.Omega.{arith}
 use native.Mathlib.Decide.{dec_lt}
 use lib.Dec.{ltb}
-use borrow.Author.Tests.{lt-ltb, le-ltb}
+use borrow.Author.Tests.{lt-ltb, le-ltb, ltb-true, ltb-false}
 use Rattle.words.proofs.Cases.{by-test, by-dec}
 use Rattle.trees.specs.Inner.Places.{closed, behind, sum}
 use Rattle.trees.proofs.PlaceLaws.{sum-ext}
@@ -26,6 +26,17 @@ module _ {A : Type 0} (T : ℕ → A) (c : ℕ) (U : ℕ → A) where
   pub behind-high : (j : ℕ) → c ≤ j → behind T c U j ≡ U (j - c)
   unfolding behind
   behind-high j h = rw (le-ltb j c h)
+
+pub closed-ext : {A : Type 0} (T U : ℕ → A) (s top j : ℕ) → ((i : ℕ) → i ≤ top → T i ≡ U i) → j < top → closed T s j ≡ closed U s j
+unfolding closed
+closed-ext T U s top j e l = by-test (ltb j s) (λ t. rw t (e j (omega arith))) (λ t. rw t (e (j + 1) (omega arith)))
+
+pub behind-ext : {A : Type 0} (T V : ℕ → A) (c m : ℕ) (U W : ℕ → A) (j : ℕ) → c ≡ m → ((i : ℕ) → i < c → T i ≡ V i) → ((i : ℕ) → i + c ≤ j → U i ≡ W i) → behind T c U j ≡ behind V m W j
+unfolding behind
+behind-ext T V c m U W j is e d =
+    by-test (ltb j c)
+    (λ t. let x : j < c = ltb-true _ _ t in rw (t, lt-ltb j m (omega arith)) (e j x))
+    (λ t. let x : c ≤ j = ltb-false _ _ t in let z : j - c ≡ j - m = omega arith in rw (t, le-ltb j m (omega arith)) (d (j - c) (omega arith) ∙ ap W z))
 
 pub behind-map : {A B : Type 0} (f : A → B) (T : ℕ → A) (c : ℕ) (U : ℕ → A) (j : ℕ) → f (behind T c U j) ≡ behind (λ i. f (T i)) c (λ i. f (U i)) j
 unfolding behind

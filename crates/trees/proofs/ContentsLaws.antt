@@ -4,15 +4,16 @@ use mathlib.Core.Bool.{Bool, true, false, cond, not, ◌&&◌, ◌||◌}
 use mathlib.Core.List.{List, [], ◌∷◌, ◌++◌}
 use Prim.Native.Nat.{ℕ, ◌≤◌, ◌<◌}
 use native.Mathlib.Omega.{arith}
-use lib.Dec.{leb, ltb, eqb}
-use borrow.Author.Tests.{ltb-true, ltb-false, leb-true, eqb-false, lt-ltb, le-ltb, eq-eqb, ne_eqb}
+use lib.Dec.{ltb, eqb}
+use borrow.Author.Tests.{ltb-true, ltb-false, lt-ltb, le-ltb, eq-eqb, ne_eqb}
 use Rattle.words.proofs.Cases.{by-test, true-false, or-none, or-false, and-false}
+use Rattle.std.specs.Prelude.{Option, Some}
+use Rattle.std.proofs.lemmas.Option.{none-some, same_Some}
 use Rattle.trees.specs.declared.Range.{Range}
 use Rattle.trees.specs.Ranges.{covers, page_value, look_list, held, insert_list, remove_list, holds_base, overlapping, overlaps}
-use Rattle.trees.specs.Nodes.{no_range}
 use Rattle.trees.specs.Inner.Spans.{Between, none, one}
-use Rattle.trees.specs.Inner.Search.{first_behind}
-use Rattle.trees.proofs.RangeLaws.{Around, around, between_le, not-covered-low, not-covered-high, covered, page-in, remove-here, look-not-held}
+use Rattle.trees.specs.Inner.Search.{first_behind, begins_at, has_page, begins_before}
+use Rattle.trees.proofs.RangeLaws.{Around, around, between_le, not-covered-low, not-covered-high, page-in, remove-here, look-not-held}
 use Rattle.trees.proofs.TakingLaws.{holds-none}
 
 -- By the first range that ends behind a page
@@ -27,73 +28,53 @@ unfolding overlaps overlapping
 overlaps-low r h (none a) = refl
 overlaps-low r h (one {r = q} a b m) = rw (le-ltb q.base r.limit (omega arith), and-false (ltb r.base q.limit) false refl) (overlaps-low r (omega arith) m)
 
-held-behind : {lo : ℕ} {rs : List Range} {hi : ℕ} (p : ℕ) → Between lo rs hi → held rs p ≡ covers (first_behind p rs) p
-unfolding held first_behind
-held-behind p (none a) = sym (not-covered-high no_range p (omega arith))
+held-behind : {lo : ℕ} {rs : List Range} {hi : ℕ} (p : ℕ) → Between lo rs hi → held rs p ≡ has_page (first_behind p rs) p
+unfolding held first_behind has_page
+held-behind p (none a) = refl
 held-behind p (one {r = r} {rs = rs} a b m) =
     by-test (ltb p r.limit)
     (λ e. rw e (or-none (covers r p) (held rs p) (held_low p (ltb-true _ _ e) m)))
     (λ e. rw (e, not-covered-high r p (ltb-false _ _ e)) (held-behind p m))
 
-look-behind : {lo : ℕ} {rs : List Range} {hi : ℕ} (p : ℕ) → Between lo rs hi → covers (first_behind p rs) p ≡ true → look_list rs p ≡ page_value (first_behind p rs) p
+look-behind : {lo : ℕ} {rs : List Range} {hi : ℕ} (p : ℕ) (x : Range) → Between lo rs hi → first_behind p rs ≡ Some x → covers x p ≡ true → look_list rs p ≡ page_value x p
 unfolding look_list first_behind
-look-behind p (none a) t = true-false (covers no_range p) t (not-covered-high no_range p (omega arith))
-look-behind p (one {r = r} {rs = rs} a b m) t =
+look-behind p x (none a) is t = absurd (none-some x is)
+look-behind p x (one {r = r} {rs = rs} a b m) is t =
     by-test (ltb p r.limit)
-    (λ e. let c : covers r p ≡ true = rw e at t in rw (e, c))
-    (λ e. rw (e, not-covered-high r p (ltb-false _ _ e)) (look-behind p m (rw e at t)))
+    (λ e. let d : r ≡ x = same_Some r x (rw e at is) in rw (ap (λ (y : Range). covers y p) d ∙ t) (ap (λ (y : Range). page_value y p) d))
+    (λ e. rw (not-covered-high r p (ltb-false _ _ e)) (look-behind p x m (rw e at is) t))
 
-overlaps-behind : {lo : ℕ} {rs : List Range} {hi : ℕ} (r : Range) → r.base < r.limit → Between lo rs hi → overlaps r rs ≡ (not (eqb (first_behind r.base rs).limit 0) && ltb (first_behind r.base rs).base r.limit)
-unfolding overlaps overlapping first_behind
+overlaps-behind : {lo : ℕ} {rs : List Range} {hi : ℕ} (r : Range) → r.base < r.limit → Between lo rs hi → overlaps r rs ≡ begins_before (first_behind r.base rs) r.limit
+unfolding overlaps overlapping first_behind begins_before
 overlaps-behind r s (none a) = refl
 overlaps-behind r s (one {r = q} {rs = rs} a b m) =
     by-test (ltb r.base q.limit)
     (λ e. by-test (ltb q.base r.limit)
-    (λ d. rw (e, d, ne_eqb q.limit 0 (λ z. omega arith)))
-    (λ d. let h : r.limit ≤ q.base = ltb-false _ _ d in rw (e, d, ne_eqb q.limit 0 (λ z. omega arith)) (overlaps-low r (omega arith) m)))
+    (λ d. rw (e, d))
+    (λ d. let h : r.limit ≤ q.base = ltb-false _ _ d in rw (e, d) (overlaps-low r (omega arith) m)))
     (λ e. rw e (overlaps-behind r s m))
 
-holds-behind : {lo : ℕ} {rs : List Range} {hi : ℕ} (b : ℕ) → Between lo rs hi → holds_base b rs ≡ (not (eqb (first_behind b rs).limit 0) && eqb (first_behind b rs).base b)
-unfolding holds_base first_behind
+holds-behind : {lo : ℕ} {rs : List Range} {hi : ℕ} (b : ℕ) → Between lo rs hi → holds_base b rs ≡ begins_at (first_behind b rs) b
+unfolding holds_base first_behind begins_at
 holds-behind b (none a) = refl
 holds-behind b (one {r = q} {rs = rs} l s m) =
     by-test (ltb b q.limit)
-    (λ e. rw (e, ne_eqb q.limit 0 (λ z. omega arith)) (or-none (eqb q.base b) (holds_base b rs) (holds-none b (ltb-true _ _ e) m)))
+    (λ e. rw e (or-none (eqb q.base b) (holds_base b rs) (holds-none b (ltb-true _ _ e) m)))
     (λ e. let h : q.limit ≤ b = ltb-false _ _ e in rw (e, ne_eqb q.base b (λ z. omega arith)) (holds-behind b m))
 
--- the same for a caller that has found this range and compared its words
-module _ {lo : ℕ} {rs : List Range} {hi : ℕ} (m : Between lo rs hi) (x : Range) (p : ℕ) (is : x ≡ first_behind p rs) where
-  has-page : x.base ≤ p → p < x.limit → covers (first_behind p rs) p ≡ true
-  has-page l h = rw is at (covered x p l h)
+-- the same for a caller that has found what is there
+module _ {lo : ℕ} {rs : List Range} {hi : ℕ} (m : Between lo rs hi) (o : Option Range) (p : ℕ) (is : o ≡ first_behind p rs) where
+  pub behind-held : held rs p ≡ has_page o p
+  behind-held = held-behind p m ∙ ap (λ (x : Option Range). has_page x p) (sym is)
 
-  pub behind-held : x.base ≤ p → p < x.limit → held rs p ≡ true
-  behind-held l h = held-behind p m ∙ has-page l h
+  pub behind-value : (x : Range) → o ≡ Some x → covers x p ≡ true → look_list rs p ≡ page_value x p
+  behind-value x some c = look-behind p x m (sym is ∙ some) c
 
-  pub behind-value : x.base ≤ p → p < x.limit → look_list rs p ≡ page_value x p
-  behind-value l h = look-behind p m (has-page l h) ∙ rw is
+  pub behind-base : holds_base p rs ≡ begins_at o p
+  behind-base = holds-behind p m ∙ ap (λ (x : Option Range). begins_at x p) (sym is)
 
-  pub behind-not-held : (x.base ≤ p → x.limit ≤ p) → held rs p ≡ false
-  unfolding covers
-  behind-not-held n =
-      held-behind p m
-      ∙ rw (sym is) (by-test (leb x.base p) (λ e. rw (e, le-ltb p x.limit (n (leb-true _ _ e)))) (λ e. rw e))
-
-  pub behind-base : (x.limit ≡ 0 → ⊥) → x.base ≡ p → holds_base p rs ≡ true
-  behind-base n e = holds-behind p m ∙ rw (sym is) (rw (ne_eqb x.limit 0 n, eq-eqb x.base p e))
-
-  pub behind-no-base : ((x.limit ≡ 0 → ⊥) → x.base ≡ p → ⊥) → holds_base p rs ≡ false
-  behind-no-base n =
-      holds-behind p m
-      ∙ rw (sym is) (by-test (eqb x.limit 0) (λ e. rw e) (λ e. rw (e, ne_eqb x.base p (n (eqb-false _ _ e)))))
-
-module _ {lo : ℕ} {rs : List Range} {hi : ℕ} (m : Between lo rs hi) (x r : Range) (is : x ≡ first_behind r.base rs) (some : r.base < r.limit) where
-  pub behind-meets : (x.limit ≡ 0 → ⊥) → x.base < r.limit → overlaps r rs ≡ true
-  behind-meets n l = overlaps-behind r some m ∙ rw (sym is) (rw (ne_eqb x.limit 0 n, lt-ltb x.base r.limit l))
-
-  pub behind-apart : ((x.limit ≡ 0 → ⊥) → r.limit ≤ x.base) → overlaps r rs ≡ false
-  behind-apart n =
-      overlaps-behind r some m
-      ∙ rw (sym is) (by-test (eqb x.limit 0) (λ e. rw e) (λ e. rw (e, le-ltb x.base r.limit (n (eqb-false _ _ e)))))
+pub behind-overlaps : {lo : ℕ} {rs : List Range} {hi : ℕ} → Between lo rs hi → (o : Option Range) (r : Range) → o ≡ first_behind r.base rs → r.base < r.limit → overlaps r rs ≡ begins_before o r.limit
+behind-overlaps m o r is some = overlaps-behind r some m ∙ ap (λ (x : Option Range). begins_before x r.limit) (sym is)
 
 -- After an insertion
 

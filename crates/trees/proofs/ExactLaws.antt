@@ -9,6 +9,7 @@ use lib.ListN.{length, length-append}
 use borrow.Author.Tests.{eqb-true}
 use Rattle.words.proofs.Cases.{by-test}
 use Rattle.words.proofs.SearchLaws.{at-all_from}
+use Rattle.std.specs.Prelude.{Some}
 use Rattle.trees.specs.Nodes.{root_in, leaf_in}
 use Rattle.trees.specs.Trees.{Branch, Tree, Rooted, along, in_row, contents, nodes, occ, Each, next, Shape, root_of, tree_words, tree_at, height_from, height_of, tree_of, contents_of}
 use Rattle.trees.specs.Inner.Walk.{zeros_in, visit, start, free_fits, lawful}
@@ -95,7 +96,7 @@ valid-height t v = let l = between-length v.between v.propers in height-few t.he
 
 nothing-held : (b : List ℕ) → root_in b ≡ 64 → ((m : ℕ) → m < 64 → zeros_in b m 0 24 ≡ true) → lawful b ≡ true
 nothing-held b e free =
-    sym (lawful-rest b start (walk_is b 0 (root_in b) start (height-empty b e) refl (unfold visit in refl)) (unfold start in refl))
+    sym (lawful-rest b start (walk_is b 0 (root_in b) (Some start) (height-empty b e) refl (unfold visit in refl)))
     ∙ at-all_from 64 0 (free_fits b start.seen) (λ m lo hi. free-zero b start.seen m (start-zero m) true (free m (omega arith)))
 
 no_node : (t : Tree 0) (m : ℕ) → occ m (nodes 0 t) ≡ 0

@@ -12,7 +12,7 @@ use Rattle.trees.specs.declared.Range.{Range}
 use Rattle.trees.specs.Nodes.{no_range}
 use Rattle.trees.specs.Trees.{Branch, Tree, Each, next, done, Shape, nodes, besides, branches}
 use Rattle.trees.specs.Insertion.{Grown, whole, parts, cut, parted, insert_at, way_along}
-use Rattle.trees.specs.Inner.Places.{placed, opened, slot_by, sum}
+use Rattle.trees.specs.Inner.Places.{first_at, placed, opened, slot_by, sum}
 use Rattle.trees.specs.Inner.Standing.{grown_nodes}
 use Rattle.trees.proofs.PlaceLaws.{opened_map, length-branches, branches-behind, branches-shift, slot_by-le, row-whole, row-parts, sum-ext, sum-placed, sum-opened, row-weight}
 use Rattle.trees.proofs.StandingLaws.{TreeNode}
@@ -190,7 +190,7 @@ insert-gains f q (suc h) least t s =
 
 -- the way through a row goes on in the child at the place of the BASE
 pub way-row : {A : Type 0} (f : A → List ℕ) (c : ℕ) (r : ℕ → Range) (T : ℕ → A) (k i : ℕ) → way_along f c (T i) (branches r T k i) ≡ f (T (slot_by r c k i))
-unfolding way_along branches slot_by
+unfolding way_along branches first_at
 way-row f c r T zero i = refl
 way-row f c r T (suc k) i = by-test (ltb c (r i).base) (λ t. rw t) (λ t. rw t (way-row f c r T k (suc i)))
 

@@ -1,6 +1,6 @@
 -- An insertion one level higher: from what it left of a child to what it leaves of the node.
 use mathlib.Core.Path.{◌≡◌, refl, sym, ap, ◌∙◌}
-use mathlib.Core.Bool.{true, false, cond}
+use mathlib.Core.Bool.{cond}
 use mathlib.Core.List.{List}
 use Prim.Native.Nat.{ℕ, zero, suc, ◌+◌, ◌-◌, ◌*◌, ◌≤◌, ◌<◌}
 use native.Mathlib.Omega.{arith}
@@ -9,7 +9,9 @@ use lib.Dec.{ltb, eqb}
 use lib.ListN.{length, get_or, drop, length-append, length-drop}
 use lib.Seq.{get_or-drop, drop-drop}
 use borrow.Author.Tests.{ne_eqb, eqb-true, eqb-false, ltb-true, ltb-false}
-use Rattle.words.proofs.Cases.{by-test, by-dec, true-false}
+use Rattle.words.proofs.Cases.{by-test, by-dec}
+use Rattle.std.specs.Prelude.{Option, Some, None, MatchOption}
+use Rattle.std.proofs.lemmas.Option.{none-some}
 use Rattle.trees.specs.declared.Range.{Range}
 use Rattle.trees.specs.declared.Up.{Up}
 use Rattle.trees.specs.Nodes.{count_in, range_in, child_in, SameNode}
@@ -17,7 +19,7 @@ use Rattle.trees.specs.Trees.{Tree, nodes, tree_at, occ}
 use Rattle.trees.specs.Insertion.{Grown, whole, parts, insert_at, insertion_way}
 use Rattle.trees.specs.Inner.Walk.{kids}
 use Rattle.trees.specs.Inner.Places.{placed, opened, slot_by, sum}
-use Rattle.trees.specs.Inner.Standing.{NodeIs, Stands, free_list, free_number, free_count, grown_nodes, Ready, Result, Grew, Absorbed, Halved, Widened}
+use Rattle.trees.specs.Inner.Standing.{NodeIs, Stands, free_list, free_number, free_count, grown_nodes, Ready, Parted, Result, Grew, Absorbed, Halved, Widened}
 use Rattle.trees.proofs.CheckLaws.{leaf-level}
 use Rattle.trees.proofs.PlaceLaws.{placed-here, placed-other, opened_map, slot_by-le, sum_one, sum-two, occ-append}
 use Rattle.trees.proofs.PassingLaws.{passing-next, passing-among, first-occ}
@@ -26,7 +28,7 @@ use Rattle.trees.proofs.StandingLaws.{TreeNode, node-path, node-is-tree, node-is
 use Rattle.trees.proofs.WidenLaws.{same-trans, node-is-ext}
 use Rattle.trees.proofs.GainLaws.{insert-whole, insert-absorb, insert-halve, weigh-kid, weigh-halve, Gains, insert-gains, way-row, sum_ones}
 
-opened-ext : {A : Type 0} (T U : ℕ → A) (s : ℕ) (a c : A) (top j : ℕ) → ((i : ℕ) → i ≤ top → T i ≡ U i) → a ≡ c → s ≤ suc top → j ≤ suc top → opened T s a j ≡ opened U s c j
+pub opened-ext : {A : Type 0} (T U : ℕ → A) (s : ℕ) (a c : A) (top j : ℕ) → ((i : ℕ) → i ≤ top → T i ≡ U i) → a ≡ c → s ≤ suc top → j ≤ suc top → opened T s a j ≡ opened U s c j
 unfolding opened
 opened-ext T U s a c top j e d l u =
     by-test (ltb j s) (λ t. let x : j < s = ltb-true _ _ t in rw t (e j (omega arith)))
@@ -107,7 +109,7 @@ module _ (b : List ℕ) (h n : ℕ) (q : Range) (ready : Ready b (suc h) n q) wh
   }
 
   -- What the insertion left of the child: the numbers in the node, and its other children
-  module _ (u : Up) (b₁ : List ℕ) (grew : Grew b h (child_in b n (Slot b n q)) q u b₁) where
+  module _ (o : Option Up) (b₁ : List ℕ) (grew : Grew b h (child_in b n (Slot b n q)) q o b₁) where
     abbrev After : Grown (Tree h)
     After = insert_at (free_number b) q h (Kids b h n (Slot b n q))
 
@@ -171,7 +173,7 @@ module _ (b : List ℕ) (h n : ℕ) (q : Range) (ready : Ready b (suc h) n q) wh
 
     -- The child stayed whole: the node is not written
 
-    module _ (a : Tree h) (is : After ≡ whole a) (split : u.split ≡ false) (left : tree_at b₁ h (child_in b n (Slot b n q)) ≡ a)
+    module _ (a : Tree h) (is : After ≡ whole a) (nothing : o ≡ None) (left : tree_at b₁ h (child_in b n (Slot b n q)) ≡ a)
         (stays : (least : ℕ) → Stands b h least (child_in b n (Slot b n q)) → Stands b₁ h least (child_in b n (Slot b n q))) where
       whole-tree : tree_at b₁ (suc h) n ≡ TreeNode h n (count_in b n) (range_in b n) (placed (Kids b h n) (Slot b n q) a)
       unfolding tree_at
@@ -193,25 +195,25 @@ module _ (b : List ℕ) (h n : ℕ) (q : Range) (ready : Ready b (suc h) n q) wh
             below = λ i l. let k : i ≤ count_in b n = omega arith in rw (child-same b b₁ n same_here i (omega arith)) (kid-stands (stays 2 (s.below (Slot b n q) slot-in)) i k);
           }
 
-      grows-whole : Grew b (suc h) n q u b₁
+      grows-whole : Grew b (suc h) n q o b₁
       unfolding tree_at
       grows-whole = record {
-        result = let few = ready.stands.few in rw (insert-whole (free_number b) q h n (count_in b n) (range_in b n) (Kids b h n) a few is) (record { split = split; tree = whole-tree; stands = whole-stands });
+        result = let few = ready.stands.few in rw (insert-whole (free_number b) q h n (count_in b n) (range_in b n) (Kids b h n) a few is) (record { nothing = nothing; tree = whole-tree; stands = whole-stands });
         stay = λ m o z. (aside m o z).1;
         others = λ m z. grew.others m (outside m z).0;
         root = grew.root;
       }
 
-    grew-whole : u.split ≡ false → Grew b (suc h) n q u b₁
-    grew-whole split = go After refl grew.result
+    grew-whole : o ≡ None → Grew b (suc h) n q o b₁
+    grew-whole none = go After refl grew.result
       where
-        go : (g : Grown (Tree h)) → After ≡ g → Result b h (child_in b n (Slot b n q)) u b₁ g → Grew b (suc h) n q u b₁
-        go (whole a) e r = grows-whole a e split r.tree r.stands
-        go (parts a s c) e r = true-false u.split r.split split
+        go : (g : Grown (Tree h)) → After ≡ g → Result b h (child_in b n (Slot b n q)) o b₁ g → Grew b (suc h) n q o b₁
+        go (whole a) e r = grows-whole a e none r.tree r.stands
+        go (parts a s c) e r = absurd (rw none at r)
 
     -- The child was parted, and the node is written
 
-    module _ (a : Tree h) (s : Range) (c : Tree h) (is : After ≡ parts a s c) (r : Result b h (child_in b n (Slot b n q)) u b₁ (parts a s c)) where
+    module _ (a : Tree h) (s : Range) (c : Tree h) (is : After ≡ parts a s c) (u : Up) (r : Parted b h (child_in b n (Slot b n q)) u b₁ a s c) where
       abbrev Trees : ℕ → Tree h
       Trees = opened (placed (Kids b h n) (Slot b n q) a) (suc (Slot b n q)) c
 
@@ -270,7 +272,7 @@ module _ (b : List ℕ) (h n : ℕ) (q : Range) (ready : Ready b (suc h) n q) wh
       count-here = count_same b b₁ n same_here
 
       -- it has room
-      module _ (v : Up) (b₂ : List ℕ) (few : count_in b n ≤ 3) (w : Absorbed b₁ (eqb h 0) n (Slot b n q) u.range u.node v b₂) where
+      module _ (v : Option Up) (b₂ : List ℕ) (few : count_in b n ≤ 3) (w : Absorbed b₁ (eqb h 0) n (Slot b n q) u.range u.node v b₂) where
         spare-a : (m : ℕ) → (m ≡ n → ⊥) → 1 ≤ count_in b₁ m → SameNode b₁ b₂ m
         spare-a m d o = w.others m d
 
@@ -283,7 +285,7 @@ module _ (b : List ℕ) (h n : ℕ) (q : Range) (ready : Ready b (suc h) n q) wh
         unfolding tree_at
         grows-absorbed = record {
           result = rw (insert-absorb (free_number b) q h n (count_in b n) (range_in b n) (Kids b h n) a s c few is) (record {
-            split = w.split;
+            nothing = w.nothing;
             tree = node-is-tree b₂ h n (suc (count_in b n)) Ranges (Below b₂ spare-a) node-a
                 ∙ node-path h n (suc (count_in b n)) (suc (count_in b n)) Ranges Ranges (λ j. tree_at b₂ h (Below b₂ spare-a j)) Trees refl (λ i l. refl) (λ i l. trees-are b₂ spare-a i l);
             stands = λ least st. let en = st.enough in node-is-stands b₂ h n (suc (count_in b n)) least Ranges (Below b₂ spare-a) node-a st.number (omega arith) (omega arith) (λ i l. stands-are b₂ spare-a i l);
@@ -335,13 +337,12 @@ module _ (b : List ℕ) (h n : ℕ) (q : Range) (ready : Ready b (suc h) n q) wh
             let y = kid-sum m in let o = occ-node h n (count_in b n) (range_in b n) (Kids b h n) m in
             rw taken_is (not-here (free_number b h) m (omega arith))
 
-        grows-halved : Grew b (suc h) n q v b₂
+        grows-halved : Grew b (suc h) n q (Some v) b₂
         unfolding tree_at
         grows-halved =
             let num = ready.stands.number in
             record {
               result = rw grown-is (record {
-                split = w.split;
                 range = w.range ∙ ranges-are b₂ spare-h 2 (omega arith);
                 left = node-is-tree b₂ h n 2 Ranges (Below b₂ spare-h) left_is
                     ∙ node-path h n 2 2 Ranges Ranges (λ j. tree_at b₂ h (Below b₂ spare-h j)) Trees refl (λ i l. refl) (λ i l. trees-are b₂ spare-h i (omega arith));
@@ -356,42 +357,48 @@ module _ (b : List ℕ) (h n : ℕ) (q : Range) (ready : Ready b (suc h) n q) wh
               root = w.root ∙ grew.root;
             }
 
-    grew-widened : (v : Up) (b₂ : List ℕ) → u.split ≡ true → Widened b₁ (eqb h 0) n (Slot b n q) u.range u.node v b₂ → Grew b (suc h) n q v b₂
-    grew-widened v b₂ split w = go After refl grew.result
+    grew-widened : (u : Up) → o ≡ Some u → (v : Option Up) (b₂ : List ℕ) → Widened b₁ (eqb h 0) n (Slot b n q) u.range u.node v b₂ → Grew b (suc h) n q v b₂
+    grew-widened u some v b₂ w = go After refl grew.result
       where
-        go : (g : Grown (Tree h)) → After ≡ g → Result b h (child_in b n (Slot b n q)) u b₁ g → Grew b (suc h) n q v b₂
-        go (whole a) e r = true-false u.split split r.split
+        over : (a : Tree h) (s : Range) (c : Tree h) → After ≡ parts a s c → Parted b h (child_in b n (Slot b n q)) u b₁ a s c → (v : Option Up) → count_in b n ≡ 4 → MatchOption v ⊥ (λ (x : Up). Halved b₁ (eqb h 0) n (Slot b n q) u.range u.node x b₂) → Grew b (suc h) n q v b₂
+        over a s c e p None four m = absurd m
+        over a s c e p (Some x) four m = grows-halved a s c e u p x b₂ four m
+
+        go : (g : Grown (Tree h)) → After ≡ g → Result b h (child_in b n (Slot b n q)) o b₁ g → Grew b (suc h) n q v b₂
+        go (whole a) e r = absurd (none-some u (sym r.nothing ∙ some))
         go (parts a s c) e r =
+            let p : Parted b h (child_in b n (Slot b n q)) u b₁ a s c = rw some at r in
             let same = count_same b b₁ n same_here in let few = ready.stands.few in
             by-dec (dec_lt (count_in b n) 4)
-            (λ d. grows-absorbed a s c e r v b₂ (omega arith) (w.fits (omega arith)))
-            (λ d. grows-halved a s c e r v b₂ (omega arith) (w.over (omega arith)))
+            (λ d. grows-absorbed a s c e u p v b₂ (omega arith) (w.fits (omega arith)))
+            (λ d. over a s c e p v (omega arith) (w.over (omega arith)))
 
     -- the node can be written: there is a node to take if it has four ranges
-    can-widen : u.split ≡ true → (n ≤ 63) × ((Slot b n q ≤ 4) × ((count_in b₁ n ≤ 4) × (1 ≤ count_in b₁ n)))
-    can-widen split =
+    can-widen : (n ≤ 63) × ((Slot b n q ≤ 4) × ((count_in b₁ n ≤ 4) × (1 ≤ count_in b₁ n)))
+    can-widen =
         let same = count_same b b₁ n same_here in let few = ready.stands.few in let k = some-ranges in let i = slot-in in
         (ready.stands.number, (omega arith, (omega arith, omega arith)))
 
-    can-take : u.split ≡ true → count_in b₁ n ≡ 4 → 1 ≤ free_count b₁
+    can-take : (u : Up) → o ≡ Some u → count_in b₁ n ≡ 4 → 1 ≤ free_count b₁
     unfolding tree_at
-    can-take split is = go After refl grew.result
+    can-take u some is = go After refl grew.result
       where
-        go : (g : Grown (Tree h)) → After ≡ g → Result b h (child_in b n (Slot b n q)) u b₁ g → 1 ≤ free_count b₁
-        go (whole a) e r = true-false u.split split r.split
+        go : (g : Grown (Tree h)) → After ≡ g → Result b h (child_in b n (Slot b n q)) o b₁ g → 1 ≤ free_count b₁
+        go (whole a) e r = absurd (none-some u (sym r.nothing ∙ some))
         go (parts a s c) e r =
+            let p : Parted b h (child_in b n (Slot b n q)) u b₁ a s c = rw some at r in
             let same = count_same b b₁ n same_here in
             let l = (gains b (suc h) n q ready).full _ _ _ (insert-halve (free_number b) q h n (count_in b n) (range_in b n) (Kids b h n) a s c (omega arith) e) in
-            let k = enough b (suc h) n q ready in let d = ap length r.free ∙ length-drop h (free_list b) in
+            let k = enough b (suc h) n q ready in let d = ap length p.free ∙ length-drop h (free_list b) in
             omega arith
 
 -- below a leaf
-pub grew-below : (b : List ℕ) (l n : ℕ) (q : Range) (u : Up) → l ≡ 0 → u.split ≡ true → u.range ≡ q → Grew b l n q u b
-grew-below b l n q u e split range = rw e (base n)
+pub grew-below : (b : List ℕ) (l n : ℕ) (q : Range) (u : Up) → l ≡ 0 → u.range ≡ q → Grew b l n q (Some u) b
+grew-below b l n q u e range = rw e (base n)
   where
-    base : (k : ℕ) → Grew b zero k q u b
+    base : (k : ℕ) → Grew b zero k q (Some u) b
     base k = unfold tree_at insert_at grown_nodes nodes occ in record {
-      result = record { split = split; range = range; left = refl; right = refl; stands = tt; behind = tt; free = refl };
+      result = record { range = range; left = refl; right = refl; stands = tt; behind = tt; free = refl };
       stay = λ m o z. record { same = λ j l. refl };
       others = λ m z. record { same = λ j l. refl };
       root = refl;
@@ -416,18 +423,18 @@ module _ (b : List ℕ) (l n : ℕ) (q : Range) (some : 0 < l) (ready : Ready b 
     pub child-ready : Ready b (l - 1) (child_in b n i) q
     child-ready = rw at (ready-child b (l - 1) n q ready')
 
-    module _ (u : Up) (b₁ : List ℕ) (grew : Grew b (l - 1) (child_in b n i) q u b₁) where
-      grew' : Grew b (l - 1) (child_in b n (Slot b n q)) q u b₁
+    module _ (o : Option Up) (b₁ : List ℕ) (grew : Grew b (l - 1) (child_in b n i) q o b₁) where
+      grew' : Grew b (l - 1) (child_in b n (Slot b n q)) q o b₁
       grew' = rw at at grew
 
-      pub done-whole : u.split ≡ false → Grew b l n q u b₁
-      done-whole e = rw level (grew-whole b (l - 1) n q ready' u b₁ grew' e)
+      pub done-whole : o ≡ None → Grew b l n q None b₁
+      done-whole e = let g : Grew b l n q o b₁ = rw level (grew-whole b (l - 1) n q ready' o b₁ grew' e) in rw e at g
 
-      pub widen-can : u.split ≡ true → (n ≤ 63) × ((i ≤ 4) × ((count_in b₁ n ≤ 4) × (1 ≤ count_in b₁ n)))
-      widen-can e = rw at (can-widen b (l - 1) n q ready' u b₁ grew' e)
+      pub widen-can : (n ≤ 63) × ((i ≤ 4) × ((count_in b₁ n ≤ 4) × (1 ≤ count_in b₁ n)))
+      widen-can = rw at (can-widen b (l - 1) n q ready' o b₁ grew')
 
-      pub widen-take : u.split ≡ true → count_in b₁ n ≡ 4 → 1 ≤ free_count b₁
-      widen-take e = can-take b (l - 1) n q ready' u b₁ grew' e
+      pub widen-take : (u : Up) → o ≡ Some u → count_in b₁ n ≡ 4 → 1 ≤ free_count b₁
+      widen-take u e = can-take b (l - 1) n q ready' o b₁ grew' u e
 
-      pub done-widened : (v : Up) (b₂ : List ℕ) → u.split ≡ true → Widened b₁ (eqb l 1) n i u.range u.node v b₂ → Grew b l n q v b₂
-      done-widened v b₂ e w = rw level (grew-widened b (l - 1) n q ready' u b₁ grew' v b₂ e (rw (leaf-level l some, at) at w))
+      pub done-widened : (u : Up) → o ≡ Some u → (v : Option Up) (b₂ : List ℕ) → Widened b₁ (eqb l 1) n i u.range u.node v b₂ → Grew b l n q v b₂
+      done-widened u e v b₂ w = rw level (grew-widened b (l - 1) n q ready' o b₁ grew' u e v b₂ (rw (leaf-level l some, at) at w))

@@ -8,7 +8,9 @@ use native.Mathlib.Decide.{dec_lt}
 use lib.Dec.{eqb}
 use lib.ListN.{length, get_or, length-drop}
 use borrow.Author.Tests.{eq-eqb, ne_eqb, eqb-false}
-use Rattle.words.proofs.Cases.{by-test, by-dec, true-false}
+use Rattle.words.proofs.Cases.{by-test, by-dec}
+use Rattle.std.specs.Prelude.{Option, Some, None}
+use Rattle.std.proofs.lemmas.Option.{none-some}
 use Rattle.trees.specs.declared.Range.{Range}
 use Rattle.trees.specs.declared.Up.{Up}
 use Rattle.trees.specs.Ranges.{proper, insert_list, overlaps}
@@ -17,7 +19,7 @@ use Rattle.trees.specs.Trees.{Tree, contents, nodes, branches, tree_at, root_of,
 use Rattle.trees.specs.Insertion.{Grown, whole, parts, insert_at, topped, unused_numbers, taken_number, insert_tree, insertion_way}
 use Rattle.trees.specs.Inner.Walk.{zeros_in, lawful}
 use Rattle.trees.specs.Inner.Places.{sum}
-use Rattle.trees.specs.Inner.Standing.{Stands, free_list, free_number, free_count, grown_nodes, Ready, Result, Grew, NewRoot}
+use Rattle.trees.specs.Inner.Standing.{Stands, free_list, free_number, free_count, grown_nodes, Ready, Parted, Result, Grew, NewRoot}
 use Rattle.trees.specs.Inner.Holding.{Holding}
 use Rattle.trees.proofs.PlaceLaws.{occ-append}
 use Rattle.trees.proofs.PassingLaws.{passing-ext}
@@ -91,12 +93,12 @@ module _ (b : List ℕ) (r : Range) (is : lawful b ≡ true) (ok : proper r ≡ 
   unfolding insert_tree tree_of
   tree-made = ap (λ (f : ℕ → ℕ). topped f (height_of b) (insert_at f r (height_of b) (Top b))) (same_numbers b is)
 
-  module _ (u : Up) (b₁ : List ℕ) (grew : Grew b (height_of b) (root_in b) r u b₁) where
+  module _ (o : Option Up) (b₁ : List ℕ) (grew : Grew b (height_of b) (root_in b) r o b₁) where
     still-free : (m : ℕ) → m < 64 → occ m (grown_nodes (height_of b) Made) ≡ 0 → zeros_in b₁ m 0 24 ≡ true
     still-free m l z = let o = grown-old b (height_of b) (root_in b) r top_ready m in zeros-same b b₁ m (grew.others m z) 0 24 (omega arith) (top-free b is m l (omega arith))
 
     -- the root stayed whole
-    module _ (a : Tree (height_of b)) (made : Made ≡ whole a) (q : Result b (height_of b) (root_in b) u b₁ (whole a)) where
+    module _ (a : Tree (height_of b)) (made : Made ≡ whole a) (q : Result b (height_of b) (root_in b) o b₁ (whole a)) where
       root-same : root_in b₁ ≡ root_in b
       unfolding root_in
       root-same = grew.root
@@ -116,7 +118,7 @@ module _ (b : List ℕ) (r : Range) (is : lawful b ≡ true) (ok : proper r ≡ 
       whole-left size = rw (tree-made, made) (whole-holding size)
 
     -- the root was parted
-    module _ (a : Tree (height_of b)) (s : Range) (c : Tree (height_of b)) (made : Made ≡ parts a s c) (q : Result b (height_of b) (root_in b) u b₁ (parts a s c)) where
+    module _ (a : Tree (height_of b)) (s : Range) (c : Tree (height_of b)) (made : Made ≡ parts a s c) (u : Up) (q : Parted b (height_of b) (root_in b) u b₁ a s c) where
       parts_free : 1 ≤ free_count b₁
       unfolding tree_of
       parts_free =
@@ -180,28 +182,28 @@ module _ (b : List ℕ) (r : Range) (is : lawful b ≡ true) (ok : proper r ≡ 
   abbrev Left : List ℕ → Type 0
   Left b₂ = Holding b₂ (insert_tree r (tree_of b)) × OthersStay b (nodes (tree_of b).height (tree_of b).tree) (insertion_way r.base (tree_of b).height (tree_of b).tree) b₂
 
-  module _ (u : Up) (b₁ : List ℕ) (grew : Grew b h n r u b₁) where
-    grew_here : Grew b (height_of b) (root_in b) r u b₁
+  module _ (o : Option Up) (b₁ : List ℕ) (grew : Grew b h n r o b₁) where
+    grew_here : Grew b (height_of b) (root_in b) r o b₁
     grew_here = rw (high, root) at grew
 
-    pub whole_here : u.split ≡ false → length b₁ ≡ 1537 → Left b₁
+    pub whole_here : o ≡ None → length b₁ ≡ 1537 → Left b₁
     unfolding tree_of
-    whole_here split size = (go (Made b r is ok apart) refl grew_here.result, record { stay = grew_here.stay })
+    whole_here none size = (go (Made b r is ok apart) refl grew_here.result, record { stay = grew_here.stay })
       where
-        go : (g : Grown (Tree (height_of b))) → Made b r is ok apart ≡ g → Result b (height_of b) (root_in b) u b₁ g → Holding b₁ (insert_tree r (tree_of b))
-        go (whole a) e q = whole-left b r is ok apart u b₁ grew_here a e q size
-        go (parts a s c) e q = true-false u.split q.split split
+        go : (g : Grown (Tree (height_of b))) → Made b r is ok apart ≡ g → Result b (height_of b) (root_in b) o b₁ g → Holding b₁ (insert_tree r (tree_of b))
+        go (whole a) e q = whole-left b r is ok apart o b₁ grew_here a e q size
+        go (parts a s c) e q = absurd (rw none at q)
 
-    pub take-here : u.split ≡ true → 1 ≤ free_count b₁
-    take-here split = go (Made b r is ok apart) refl grew_here.result
+    pub take-here : (u : Up) → o ≡ Some u → 1 ≤ free_count b₁
+    take-here u some = go (Made b r is ok apart) refl grew_here.result
       where
-        go : (g : Grown (Tree (height_of b))) → Made b r is ok apart ≡ g → Result b (height_of b) (root_in b) u b₁ g → 1 ≤ free_count b₁
-        go (whole a) e q = true-false u.split split q.split
-        go (parts a s c) e q = parts_free b r is ok apart u b₁ grew_here a s c e q
+        go : (g : Grown (Tree (height_of b))) → Made b r is ok apart ≡ g → Result b (height_of b) (root_in b) o b₁ g → 1 ≤ free_count b₁
+        go (whole a) e q = absurd (none-some u (sym q.nothing ∙ some))
+        go (parts a s c) e q = parts_free b r is ok apart o b₁ grew_here a s c e u (rw some at q)
 
-    pub root-here : (b₂ : List ℕ) (x : ℕ) → x ≡ root_in b → u.split ≡ true → NewRoot b₁ (eqb h 0) u.range x u.node b₂ → length b₂ ≡ 1537 → Left b₂
+    pub root-here : (u : Up) → o ≡ Some u → (b₂ : List ℕ) (x : ℕ) → x ≡ root_in b → NewRoot b₁ (eqb h 0) u.range x u.node b₂ → length b₂ ≡ 1537 → Left b₂
     unfolding tree_of
-    root-here b₂ x d split w size = (
+    root-here u some b₂ x d w size = (
       go (Made b r is ok apart) refl grew_here.result,
       record {
         stay = λ m o z.
@@ -210,6 +212,6 @@ module _ (b : List ℕ) (r : Range) (is : lawful b ≡ true) (ok : proper r ≡ 
       },
     )
       where
-        go : (g : Grown (Tree (height_of b))) → Made b r is ok apart ≡ g → Result b (height_of b) (root_in b) u b₁ g → Holding b₂ (insert_tree r (tree_of b))
-        go (whole a) e q = true-false u.split split q.split
-        go (parts a s c) e q = parts-left b r is ok apart u b₁ grew_here a s c e q b₂ (rw (high, d) at w) size
+        go : (g : Grown (Tree (height_of b))) → Made b r is ok apart ≡ g → Result b (height_of b) (root_in b) o b₁ g → Holding b₂ (insert_tree r (tree_of b))
+        go (whole a) e q = absurd (none-some u (sym q.nothing ∙ some))
+        go (parts a s c) e q = parts-left b r is ok apart o b₁ grew_here a s c e u (rw some at q) b₂ (rw (high, d) at w) size

@@ -1,67 +1,26 @@
 -- Rows read into a line, as the code of a removal does it.
-use mathlib.Core.Path.{◌≡◌, sym, ap, ◌∙◌}
+use mathlib.Core.Path.{◌≡◌, ap, ◌∙◌}
 use mathlib.Core.Bool.{Bool, true, false, ◌||◌}
-use mathlib.Core.List.{List, ◌∷◌}
-use Prim.Native.Nat.{ℕ, zero, suc, ◌+◌, ◌-◌, ◌*◌, ◌≤◌, ◌<◌}
+use mathlib.Core.List.{List}
+use Prim.Native.Nat.{ℕ, ◌+◌, ◌-◌, ◌*◌, ◌≤◌, ◌<◌}
 use native.Mathlib.Omega.{arith}
 use lib.Dec.{ltb, eqb}
 use lib.ListN.{get_or}
-use borrow.Author.Tests.{lt-ltb, le-ltb, ltb-true, ltb-false, eq-eqb}
+use borrow.Author.Tests.{ltb-true, ltb-false, eq-eqb}
 use Rattle.words.proofs.Cases.{by-test, or-false}
 use Rattle.trees.specs.declared.Range.{Range}
 use Rattle.trees.specs.Nodes.{count_in, range_in, child_in, no_range}
 use Rattle.trees.specs.Inner.Walk.{zeros_in}
-use Rattle.trees.specs.Inner.Places.{placed, opened, closed, row_word}
+use Rattle.trees.specs.Inner.Places.{placed, closed, row_word}
 use Rattle.trees.specs.Inner.Standing.{Put, NodeIs}
 use Rattle.trees.specs.Inner.Shrinking.{JoinedRanges, JoinedChildren, JoinedLine, ClosedLine, PlacedLine, Trimmed, Ranged, Merged, Shared}
 use Rattle.words.specs.Inner.{same_in}
 use Rattle.words.proofs.SearchLaws.{at-all_from}
 use Rattle.trees.proofs.StandingLaws.{put_is, put_other, zeros-same}
 use Rattle.trees.proofs.WidenLaws.{node-is-ext, node-is-same, same-trans}
-use Rattle.trees.proofs.PlaceLaws.{opened-here, opened-next}
-use Rattle.trees.proofs.CloseLaws.{behind-low, behind-high}
-
-module _ (b : List ℕ) (x : ℕ) (s : Range) (y j c : ℕ) (is : c ≡ count_in b x) where
-  pub joined-first : j < c → range_in b x j ≡ JoinedRanges b x s y j
-  joined-first h = sym (behind-low (range_in b x) (count_in b x) (opened (range_in b y) 0 s) j (omega arith))
-
-  pub joined-mid : j ≡ c → s ≡ JoinedRanges b x s y j
-  joined-mid e = sym (behind-high (range_in b x) (count_in b x) (opened (range_in b y) 0 s) j (omega arith) ∙ (let z : j - count_in b x ≡ 0 = omega arith in ap (opened (range_in b y) 0 s) z) ∙ opened-here (range_in b y) 0 s)
-
-  pub joined-second : c ≤ j → (j ≡ c → ⊥) → range_in b y (j - c - 1) ≡ JoinedRanges b x s y j
-  joined-second h n =
-      let z : j - count_in b x ≡ suc (j - c - 1) = omega arith in
-      sym (behind-high (range_in b x) (count_in b x) (opened (range_in b y) 0 s) j (omega arith) ∙ ap (opened (range_in b y) 0 s) z ∙ opened-next (range_in b y) 0 s (j - c - 1) (omega arith))
-
-  pub joined-child-first : j ≤ c → child_in b x j ≡ JoinedChildren b x y j
-  joined-child-first h = sym (behind-low (child_in b x) (count_in b x + 1) (child_in b y) j (omega arith))
-
-  pub joined-child-second : c < j → child_in b y (j - c - 1) ≡ JoinedChildren b x y j
-  joined-child-second h =
-      let z : j - (count_in b x + 1) ≡ j - c - 1 = omega arith in
-      sym (behind-high (child_in b x) (count_in b x + 1) (child_in b y) j (omega arith) ∙ ap (child_in b y) z)
-
--- what stands in xs from its place i on is what f gives, up to place t
-pub data LineIs {A : Type 0} (f : ℕ → A) (t : ℕ) : ℕ → List A → Type 0 where
-  ends : {i : ℕ} (xs : List A) → t ≤ i → LineIs f t i xs
-  place : {i : ℕ} {x : A} {xs : List A} → (i < t → x ≡ f i) → LineIs f t (suc i) xs → LineIs f t i (x ∷ xs)
-
-line-from : {A : Type 0} (f : ℕ → A) (t i : ℕ) (d : A) (xs : List A) → LineIs f t i xs → (j k : ℕ) → k ≡ i + j → k < t → get_or xs j d ≡ f k
-line-from f t i d xs (ends zs l) j k e h = absurd (omega arith)
-line-from f t i d (x ∷ xs) (place g p) zero k e h = let z : k ≡ i = omega arith in rw z (g (omega arith))
-line-from f t i d (x ∷ xs) (place g p) (suc j) k e h = line-from f t (suc i) d xs p j k (omega arith) h
-
-pub line_at : {A : Type 0} (f : ℕ → A) (t : ℕ) (d : A) (xs : List A) → LineIs f t 0 xs → (j : ℕ) → j < t → get_or xs j d ≡ f j
-line_at f t d xs p j h = line-from f t 0 d xs p j j (omega arith) h
 
 -- whether one of two nodes is thin
 module _ (a c : ℕ) where
-  pub thin-first : a < 2 → true ≡ (ltb a 2 || ltb c 2)
-  thin-first h = rw (lt-ltb a 2 h)
-
-  pub thin-second : 2 ≤ a → ltb c 2 ≡ (ltb a 2 || ltb c 2)
-  thin-second h = rw (le-ltb a 2 h)
-
   pub thin-yes : a ≤ 4 → c ≤ 4 → (ltb a 2 || ltb c 2) ≡ true → a + c ≤ 5
   thin-yes l u t = by-test (ltb a 2) (λ e. let k : a < 2 = ltb-true _ _ e in omega arith) (λ e. let k : c < 2 = ltb-true _ _ (rw e at t) in omega arith)
 
@@ -73,6 +32,10 @@ module _ (a c : ℕ) where
 pub placed-is : {A : Type 0} (T : ℕ → A) (s : ℕ) (a : A) (j : ℕ) → j ≡ s → a ≡ placed T s a j
 unfolding placed
 placed-is T s a j e = rw (eq-eqb j s e)
+
+pub placed-ext : {A : Type 0} (T U : ℕ → A) (s : ℕ) (a : A) (j : ℕ) → T j ≡ U j → placed T s a j ≡ placed U s a j
+unfolding placed
+placed-ext T U s a j e = by-test (eqb j s) (λ t. rw t) (λ t. rw t e)
 
 line-is : (b₀ b' : List ℕ) (leaf : Bool) (m from k : ℕ) (ranges : List Range) (below : List ℕ) (r : ℕ → Range) (c : ℕ → ℕ) → k ≤ 4 → ((j : ℕ) → j < k → get_or ranges (from + j) no_range ≡ r j) → ((j : ℕ) → j ≤ k → get_or below (from + j) 0 ≡ c j)
     → Put b₀ m (row_word leaf k (λ i. get_or ranges (from + i) no_range) (λ i. get_or below (from + i) 0)) b' → NodeIs b' leaf m k r c

@@ -1,6 +1,7 @@
 -- Writing a node, as the code does it word by word.
 use mathlib.Core.Path.{◌≡◌, refl, sym, ap, ◌∙◌}
-use mathlib.Core.Bool.{Bool}
+use mathlib.Core.Bool.{Bool, true, false}
+use mir.Val.{bool_byte}
 use mathlib.Core.List.{List}
 use Prim.Native.Nat.{ℕ, ◌+◌, ◌-◌, ◌*◌, ◌/◌, ◌%◌, ◌≤◌, ◌<◌}
 use native.Mathlib.Omega.{arith}
@@ -34,6 +35,12 @@ module _ (r : Range) (q : ℕ) where
   pub field-3 : (q ≡ 0 → ⊥) → (q ≡ 1 → ⊥) → (q ≡ 2 → ⊥) → r.rights ≡ field_of r q
   unfolding field_of
   field-3 a b c = rw (ne_eqb q 0 a, ne_eqb q 1 b, ne_eqb q 2 c)
+
+-- a flag as a number
+pub byte-leaf : (leaf : Bool) → bool_byte leaf ≡ leaf_word leaf
+unfolding leaf_word
+byte-leaf true = refl
+byte-leaf false = refl
 
 module _ (leaf : Bool) (k : ℕ) (r : ℕ → Range) (c : ℕ → ℕ) (j : ℕ) where
   pub row_count : j ≡ 0 → k ≡ row_word leaf k r c j

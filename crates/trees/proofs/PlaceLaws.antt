@@ -1,10 +1,10 @@
 -- Rows by place: an insertion into a row as one into its places, and sums over them.
 use mathlib.Core.Path.{◌≡◌, refl, sym, ap, ap₂, ◌∙◌}
+use mathlib.Core.Bool.{Bool, true, false}
 use mathlib.Core.List.{List, [], ◌∷◌, ◌++◌}
 use Prim.Native.Nat.{ℕ, zero, suc, ◌+◌, ◌-◌, ◌≤◌, ◌<◌}
 use native.Mathlib.Omega.{arith}
 use native.Mathlib.Decide.{dec_lt}
-use native.Mathlib.Numerals.{add-one}
 use lib.Dec.{ltb, eqb}
 use lib.ListN.{length}
 use borrow.Author.Tests.{lt-ltb, le-ltb, eq-eqb, ne_eqb}
@@ -12,7 +12,7 @@ use Rattle.words.proofs.Cases.{by-test, by-dec}
 use Rattle.trees.specs.declared.Range.{Range}
 use Rattle.trees.specs.Trees.{Branch, Row, besides, branches, occ}
 use Rattle.trees.specs.Insertion.{Grown, whole, parts, spread, before, insert_row}
-use Rattle.trees.specs.Inner.Places.{placed, opened, slot_by, sum}
+use Rattle.trees.specs.Inner.Places.{FirstPlace, first_at, placed, opened, slot_by, sum}
 
 -- Places
 
@@ -74,12 +74,12 @@ branches-shift r T s (suc k) i =
     ap₂ ◌∷◌ (branch-path refl (ap T e)) (ap (branches r T k) e ∙ branches-shift r T s k (suc i))
 
 slot_by-ge : (r : ℕ → Range) (b k i : ℕ) → i ≤ slot_by r b k i
-unfolding slot_by
+unfolding first_at
 slot_by-ge r b zero i = omega arith
 slot_by-ge r b (suc k) i = by-test (ltb b (r i).base) (λ e. rw e (omega arith)) (λ e. let g = slot_by-ge r b k (suc i) in rw e (omega arith))
 
 pub slot_by-le : (r : ℕ → Range) (b k i : ℕ) → slot_by r b k i ≤ i + k
-unfolding slot_by
+unfolding first_at
 slot_by-le r b zero i = omega arith
 slot_by-le r b (suc k) i = by-test (ltb b (r i).base) (λ e. rw e (omega arith)) (λ e. let g = slot_by-le r b k (suc i) in rw e (omega arith))
 
@@ -97,7 +97,7 @@ module _ {A : Type 0} (g : A → Grown A) (b : ℕ) (r : ℕ → Range) (T : ℕ
   Parts k i a q c s = record { first = opened (placed T s a) (suc s) c i; rest = branches (opened r s q) (opened (placed T s a) (suc s) c) (suc k) i }
 
   pub row-whole : (k i : ℕ) (a : A) → g (T (slot_by r b k i)) ≡ whole a → insert_row g b (T i) (branches r T k i) ≡ record { first = placed T (slot_by r b k i) a i; rest = branches r (placed T (slot_by r b k i) a) k i }
-  unfolding branches insert_row slot_by spread before
+  unfolding branches insert_row first_at spread before
   row-whole zero i a e = rw e (row-path (sym (placed-here T i a)) refl)
   row-whole (suc k) i a e =
       by-test (ltb b (r i).base)
@@ -118,7 +118,7 @@ module _ {A : Type 0} (g : A → Grown A) (b : ℕ) (r : ℕ → Range) (T : ℕ
 
   pub row-parts : (k i : ℕ) (a : A) (q : Range) (c : A) → g (T (slot_by r b k i)) ≡ parts a q c
       → insert_row g b (T i) (branches r T k i) ≡ record { first = opened (placed T (slot_by r b k i) a) (suc (slot_by r b k i)) c i; rest = branches (opened r (slot_by r b k i) q) (opened (placed T (slot_by r b k i) a) (suc (slot_by r b k i)) c) (suc k) i }
-  unfolding branches insert_row slot_by spread before
+  unfolding branches insert_row first_at spread before
   row-parts zero i a q c e =
       rw e (row-path (sym (opened-low (placed T i a) (suc i) c i (omega arith) ∙ placed-here T i a)) (ap₂ ◌∷◌ (branch-path (sym (opened-here r i q)) (sym (opened-here (placed T i a) (suc i) c))) refl))
   row-parts (suc k) i a q c e =
@@ -215,21 +215,18 @@ module _ {A : Type 0} (w : List ℕ → ℕ) (nil : w [] ≡ 0) (adds : (xs ys :
       adds (g (T 0)) (besides g (branches r T k 0)) ∙ weigh k 0
       ∙ sum-ext (suc k) (λ j. w (g (T (0 + j)))) (λ j. w (g (T j))) (λ j l. let y : 0 + j ≡ j = omega arith in ap (λ (x : ℕ). w (g (T x))) y)
 
--- The loop that finds the place for a BASE, in a node of m ranges
+-- The place that a search finds
 
-module _ (r : ℕ → Range) (b : ℕ) where
-  pub slot_by-start : (m : ℕ) → slot_by r b m 0 ≡ slot_by r b (m - 0) 0
-  slot_by-start m = let s : m - 0 ≡ m = omega arith in rw s
+module _ (t : ℕ → Bool) where
+  first-from : (k i x : ℕ) → i ≤ x → x ≤ i + k → ((j : ℕ) → i ≤ j → j < x → t j ≡ false) → (x < i + k → t x ≡ true) → x ≡ first_at t k i
+  unfolding first_at
+  first-from zero i x lo hi before there = omega arith
+  first-from (suc k) i x lo hi before there =
+      by-dec (dec_lt i x)
+      (λ l. rw (before i (omega arith) l) (first-from k (suc i) x (omega arith) (omega arith) (λ j a b. before j (omega arith) b) (λ h. there (omega arith))))
+      (λ l. let e : x ≡ i = omega arith in rw (rw e at (there (omega arith))) e)
 
-  module _ (m i : ℕ) where
-    pub slot_by-step : i < m → (r i).base ≤ b → slot_by r b (m - i) i ≡ slot_by r b (m - (i + 1)) (i + 1)
-    unfolding slot_by
-    slot_by-step h l = let s : m - i ≡ suc (m - (i + 1)) = omega arith in rw (s, le-ltb b (r i).base l, add-one i)
-
-    pub slot_by-stop : i < m → b < (r i).base → slot_by r b (m - i) i ≡ i
-    unfolding slot_by
-    slot_by-stop h l = let s : m - i ≡ suc (m - (i + 1)) = omega arith in rw (s, lt-ltb b (r i).base l)
-
-    pub slot_by-end : m ≤ i → slot_by r b (m - i) i ≡ i
-    unfolding slot_by
-    slot_by-end h = let s : m - i ≡ 0 = omega arith in rw s
+module _ (r : ℕ → Range) (k x : ℕ) where
+  -- what a test of ranges answers, by place
+  pub first-is : (f : Range → Bool) → FirstPlace (λ q v. v ≡ f q) r k x → x ≡ first_at (λ j. f (r j)) k 0
+  first-is f p = first-from (λ j. f (r j)) k 0 x (omega arith) (let w = p.within in omega arith) (λ j lo hi. sym (p.before j hi)) (λ h. sym (p.there (omega arith)))

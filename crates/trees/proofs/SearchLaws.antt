@@ -1,19 +1,19 @@
 -- The search in a tree finds the first range of its list that ends behind the page, and visits the nodes of its path, no more than the tree is high.
 use mathlib.Core.Path.{◌≡◌, refl, sym, ap, ◌∙◌}
-use mathlib.Core.Bool.{cond}
 use mathlib.Core.List.{List, [], ◌∷◌, ◌++◌, append-nil}
 use Prim.Native.Nat.{ℕ, zero, suc, ◌+◌, ◌-◌, ◌≤◌, ◌<◌}
 use native.Mathlib.Omega.{arith}
-use lib.Dec.{leb, ltb, eqb}
-use borrow.Author.Tests.{ltb-true, ltb-false, leb-true, leb-false, le-leb, lt-leb, le-ltb, lt-ltb, ne_eqb}
-use native.Mathlib.Numerals.{add-one}
+use lib.Dec.{leb, ltb}
+use borrow.Author.Tests.{ltb-true, ltb-false, leb-true, leb-false, le-leb, lt-leb, le-ltb, lt-ltb}
 use Rattle.words.proofs.Cases.{by-test}
+use Rattle.std.specs.Prelude.{Some, unwrap_or}
 use Rattle.trees.specs.declared.Range.{Range}
 use Rattle.trees.specs.declared.Path.{Path}
 use Rattle.trees.specs.Nodes.{count_in, range_in, child_in}
 use Rattle.trees.specs.Trees.{Branch, Tree, along, in_row, contents, branches, tree_at, path_along, path_length}
 use Rattle.trees.specs.Inner.Spans.{Between, one}
 use Rattle.trees.specs.Inner.Search.{first_behind, nowhere, hit, further, or_else, slot_behind, search_along, search_tree}
+use Rattle.trees.specs.Inner.Places.{first_at}
 use Rattle.trees.specs.Inner.Standing.{Stands}
 use Rattle.trees.proofs.RangeLaws.{around, between_le}
 
@@ -29,15 +29,15 @@ module _ (p : ℕ) (r : Range) (ys : List Range) (some : r.base < r.limit) where
   unfolding first_behind
   behind-right l xs m h = pass l xs m (omega arith) ∙ rw (le-ltb p r.limit h)
 
-  behind-here : (l : ℕ) (xs : List Range) → Between l xs r.base → r.base ≤ p → p < r.limit → first_behind p (xs ++ r ∷ ys) ≡ r
+  behind-here : (l : ℕ) (xs : List Range) → Between l xs r.base → r.base ≤ p → p < r.limit → first_behind p (xs ++ r ∷ ys) ≡ Some r
   unfolding first_behind
   behind-here l xs m h k = pass l xs m h ∙ rw (lt-ltb p r.limit k)
 
-  behind-left : (l : ℕ) (xs : List Range) → Between l xs r.base → p < r.base → first_behind p (xs ++ r ∷ ys) ≡ cond (eqb (first_behind p xs).limit 0) r (first_behind p xs)
+  behind-left : (l : ℕ) (xs : List Range) → Between l xs r.base → p < r.base → first_behind p (xs ++ r ∷ ys) ≡ Some (unwrap_or (first_behind p xs) r)
   unfolding first_behind
   behind-left l [] m h = rw (lt-ltb p r.limit (omega arith))
   behind-left l (x ∷ xs) (one a b m) h =
-      by-test (ltb p x.limit) (λ e. rw (e, ne_eqb x.limit 0 (λ z. omega arith))) (λ e. rw e (behind-left x.limit xs m h))
+      by-test (ltb p x.limit) (λ e. rw e) (λ e. rw e (behind-left x.limit xs m h))
 
 -- in a row whose children are searched as lists are
 module _ {A : Type 0} (f : A → Path) (g : A → List Range) (p : ℕ) (known : (c : A) (lo hi : ℕ) → Between lo (g c) hi → (f c).range ≡ first_behind p (g c)) where
@@ -99,14 +99,14 @@ or-nodes r d w e = ap (λ (x : Path). x.nodes) e
 
 module _ (r : ℕ → Range) (p : ℕ) where
   pub behind-le : (k i : ℕ) → slot_behind r p k i ≤ i + k
-  unfolding slot_behind
+  unfolding first_at
   behind-le zero i = omega arith
   behind-le (suc k) i = by-test (ltb p (r i).limit) (λ e. rw e (omega arith)) (λ e. let g = behind-le k (suc i) in rw e (omega arith))
 
   module _ {A : Type 0} (f : A → Path) (T : ℕ → A) where
     -- the range there has the page
     row-hit : (k i : ℕ) → slot_behind r p k i < i + k → (r (slot_behind r p k i)).base ≤ p → search_along f p (T i) (branches r T k i) ≡ hit (r (slot_behind r p k i))
-    unfolding slot_behind search_along branches
+    unfolding first_at search_along branches
     row-hit zero i h l = absurd (omega arith)
     row-hit (suc k) i h l =
         by-test (ltb p (r i).limit)
@@ -115,7 +115,7 @@ module _ (r : ℕ → Range) (p : ℕ) where
 
     -- or it begins behind the page, and the child before it goes on
     row_before : (k i : ℕ) → slot_behind r p k i < i + k → p < (r (slot_behind r p k i)).base → search_along f p (T i) (branches r T k i) ≡ or_else (r (slot_behind r p k i)) (f (T (slot_behind r p k i)))
-    unfolding slot_behind search_along branches
+    unfolding first_at search_along branches
     row_before zero i h l = absurd (omega arith)
     row_before (suc k) i h l =
         by-test (ltb p (r i).limit)
@@ -124,29 +124,12 @@ module _ (r : ℕ → Range) (p : ℕ) where
 
     -- or there is none, and the last child goes on
     row_last : (k i : ℕ) → i + k ≤ slot_behind r p k i → search_along f p (T i) (branches r T k i) ≡ f (T (slot_behind r p k i))
-    unfolding slot_behind search_along branches
+    unfolding first_at search_along branches
     row_last zero i h = refl
     row_last (suc k) i h =
         by-test (ltb p (r i).limit)
         (λ e. absurd (let g = rw e at h in omega arith))
         (λ e. rw e (row_last k (suc i) (let g = rw e at h in omega arith)))
-
-  -- the loop that finds the place, in a node of m ranges
-  module _ (m i : ℕ) where
-    pub behind-step : i < m → (r i).limit ≤ p → slot_behind r p (m - i) i ≡ slot_behind r p (m - (i + 1)) (i + 1)
-    unfolding slot_behind
-    behind-step h l = let s : m - i ≡ suc (m - (i + 1)) = omega arith in rw (s, le-ltb p (r i).limit l, add-one i)
-
-    pub behind-stop : i < m → p < (r i).limit → slot_behind r p (m - i) i ≡ i
-    unfolding slot_behind
-    behind-stop h l = let s : m - i ≡ suc (m - (i + 1)) = omega arith in rw (s, lt-ltb p (r i).limit l)
-
-    pub behind-end : m ≤ i → slot_behind r p (m - i) i ≡ i
-    unfolding slot_behind
-    behind-end h = let s : m - i ≡ 0 = omega arith in rw s
-
-  pub behind-start : (m : ℕ) → slot_behind r p m 0 ≡ slot_behind r p (m - 0) 0
-  behind-start m = let s : m - 0 ≡ m = omega arith in rw s
 
 -- The search in node n by its cases, with l levels left
 

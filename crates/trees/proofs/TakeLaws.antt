@@ -13,7 +13,7 @@ use Rattle.trees.specs.declared.Range.{Range}
 use Rattle.trees.specs.Trees.{Branch, Node, Tree, branches, occ}
 use Rattle.trees.specs.Insertion.{whole, parts, spread, before, parted}
 use Rattle.trees.specs.Removal.{joined, thin, mended, Taken, take_branch, take_here, take_row, take_at, way_beside, removal_way}
-use Rattle.trees.specs.Inner.Places.{placed, opened, closed, behind}
+use Rattle.trees.specs.Inner.Places.{first_at, placed, opened, closed, behind}
 use Rattle.trees.specs.Inner.Shrinking.{slot_under, within, found_at, mend_row, mend_tree}
 use Rattle.trees.proofs.PlaceLaws.{branch-path, row-path, placed-here, placed-other, opened-here, opened-next, length-branches, branches-ext, branches-behind, branches-shift}
 use Rattle.trees.proofs.StandingLaws.{TreeNode}
@@ -156,31 +156,14 @@ module _ (g n k : ℕ) (r : ℕ → Range) (T : ℕ → Tree (suc g)) (j : ℕ) 
 
 module _ (r : ℕ → Range) (c : ℕ) where
   under-ge : (k i : ℕ) → i ≤ slot_under r c k i
-  unfolding slot_under
+  unfolding first_at
   under-ge zero i = omega arith
   under-ge (suc k) i = by-test (ltb (r i).base c) (λ e. let g = under-ge k (suc i) in rw e (omega arith)) (λ e. rw e (omega arith))
 
   pub under-le : (k i : ℕ) → slot_under r c k i ≤ i + k
-  unfolding slot_under
+  unfolding first_at
   under-le zero i = omega arith
   under-le (suc k) i = by-test (ltb (r i).base c) (λ e. let g = under-le k (suc i) in rw e (omega arith)) (λ e. rw e (omega arith))
-
-  -- the loop that finds it, in a node of m ranges
-  pub under-start : (m : ℕ) → slot_under r c m 0 ≡ slot_under r c (m - 0) 0
-  under-start m = let s : m - 0 ≡ m = omega arith in rw s
-
-  module _ (m i : ℕ) where
-    pub under-step : i < m → (r i).base < c → slot_under r c (m - i) i ≡ slot_under r c (m - (i + 1)) (i + 1)
-    unfolding slot_under
-    under-step h l = let s : m - i ≡ suc (m - (i + 1)) = omega arith in rw (s, lt-ltb (r i).base c l, add-one i)
-
-    pub under-stop : i < m → c ≤ (r i).base → slot_under r c (m - i) i ≡ i
-    unfolding slot_under
-    under-stop h l = let s : m - i ≡ suc (m - (i + 1)) = omega arith in rw (s, le-ltb (r i).base c l)
-
-    pub under-end : m ≤ i → slot_under r c (m - i) i ≡ i
-    unfolding slot_under
-    under-end h = let s : m - i ≡ 0 = omega arith in rw s
 
 module _ (k i : ℕ) where
   pub within-mid : i < k → i ≡ within k i
@@ -207,7 +190,7 @@ module _ (k i : ℕ) where
 
 take-branch : {A : Type 0} (r : ℕ → Range) (T : ℕ → A) (c k i s p : ℕ) → slot_under r c (suc k) i ≡ s → (s < i + suc k → p ≡ s) → (s ≡ i + suc k → p ≡ i + k)
     → take_branch c (branches r T (suc k) i) ≡ record { range = r p; left = branches (closed r p) (closed T (suc p)) k i }
-unfolding take_branch branches slot_under
+unfolding take_branch branches first_at
 take-branch r T c zero i s p e in-it last =
     by-test (ltb (r i).base c)
     (λ t. let d : s ≡ suc i = sym (rw t at e) in let x : p ≡ i = let y = last (omega arith) in omega arith in rw x)
@@ -254,7 +237,7 @@ module _ {A : Type 0} (g : Node A → Taken (Node A)) (c : ℕ) (r : ℕ → Ran
       (by-test (eqb (r i).base c) (λ t. rw t) (λ t. rw t))
 
   take-mid : (k i j s : ℕ) → slot_under r c (suc k) i ≡ s → s ≡ i + j → j ≤ k → take_row g c (T i) (branches r T (suc k) i) ≡ record { range = Out s; left = mend_row j (Less s i) (branches (In s) (Less s) (suc k) i) }
-  unfolding take_row slot_under branches mend_row before
+  unfolding take_row first_at branches mend_row before
   take-mid zero i j s e at l =
       by-test (ltb (r i).base c)
       (λ t. let d : s ≡ suc i = sym (rw t at e) in absurd (omega arith))
@@ -273,7 +256,7 @@ module _ {A : Type 0} (g : Node A → Taken (Node A)) (c : ℕ) (r : ℕ → Ran
       (λ t. let d : s ≡ i = sym (rw t at e) in absurd (omega arith))
 
   take_last : (k i s : ℕ) → slot_under r c (suc k) i ≡ s → s ≡ i + suc k → take_row g c (T i) (branches r T (suc k) i) ≡ record { range = (g (T s)).range; left = mend_row k (Less s i) (branches r (Less s) (suc k) i) }
-  unfolding take_row slot_under branches mend_row before
+  unfolding take_row first_at branches mend_row before
   take_last zero i s e at =
       by-test (ltb (r i).base c)
       (λ t. let d : s ≡ suc i = sym (rw t at e) in rw (t, d, placed-here T (suc i) (g (T (suc i))).left, placed-other T (suc i) (g (T (suc i))).left i (λ x. omega arith)))
@@ -289,7 +272,7 @@ module _ {A : Type 0} (g : Node A → Taken (Node A)) (c : ℕ) (r : ℕ → Ran
 
 module _ {A : Type 0} (f : Node A → List ℕ) (c : ℕ) (r : ℕ → Range) (T : ℕ → Node A) where
   way-mid : (k i s : ℕ) → slot_under r c (suc k) i ≡ s → s < i + suc k → way_beside f c (T i) (branches r T (suc k) i) ≡ (T (suc s)).number ∷ f (T s)
-  unfolding way_beside slot_under branches
+  unfolding way_beside first_at branches
   way-mid zero i s e l =
       by-test (ltb (r i).base c)
       (λ t. let d : s ≡ suc i = sym (rw t at e) in absurd (omega arith))
@@ -300,7 +283,7 @@ module _ {A : Type 0} (f : Node A → List ℕ) (c : ℕ) (r : ℕ → Range) (T
       (λ t. let d : s ≡ i = sym (rw t at e) in rw (t, d))
 
   way-last : (k i s : ℕ) → slot_under r c (suc k) i ≡ s → s ≡ i + suc k → way_beside f c (T i) (branches r T (suc k) i) ≡ (T (i + k)).number ∷ f (T s)
-  unfolding way_beside slot_under branches
+  unfolding way_beside first_at branches
   way-last zero i s e at =
       by-test (ltb (r i).base c)
       (λ t. let d : s ≡ suc i = sym (rw t at e) in let z : i + 0 ≡ i = omega arith in rw (t, d, z))

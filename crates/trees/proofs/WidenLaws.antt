@@ -1,12 +1,13 @@
 -- From the words that are written to what Widened and NewRoot say.
 use mathlib.Core.Path.{◌≡◌, sym, ap, ◌∙◌}
-use mathlib.Core.Bool.{Bool, true, false, cond}
+use mathlib.Core.Bool.{Bool, cond}
 use mathlib.Core.List.{List}
 use Prim.Native.Nat.{ℕ, zero, suc, ◌+◌, ◌*◌, ◌≤◌, ◌<◌}
 use native.Mathlib.Omega.{arith}
 use lib.Dec.{eqb}
 use lib.ListN.{length, get_or, set}
 use lib.Seq.{get_or-set_same, get_or-set_other}
+use Rattle.std.specs.Prelude.{Option, Some, None}
 use Rattle.trees.specs.declared.Range.{Range}
 use Rattle.trees.specs.declared.Up.{Up}
 use Rattle.trees.specs.Nodes.{count_in, range_in, child_in, no_range, SameNode}
@@ -58,10 +59,10 @@ module _ (b : List ℕ) (leaf : Bool) (n i : ℕ) (s : Range) (x : ℕ) (ranges 
       node-is-ext b' leaf m k (λ j. opened (range_in b n) i s (0 + j)) (opened (range_in b n) i s) (λ j. opened (child_in b n) (i + 1) x (0 + j)) (opened (child_in b n) (i + 1) x)
       (λ j h. let z : 0 + j ≡ j = omega arith in ap (opened (range_in b n) i s) z) (λ j h. let z : 0 + j ≡ j = omega arith in ap (opened (child_in b n) (i + 1) x) z) q
 
-  pub widened-fits : (u : Up) (b' : List ℕ) (k : ℕ) → k ≡ count_in b n → k < 4 → u.split ≡ false → Put b n (row_word leaf (k + 1) (R 0) (K 0)) b' → Widened b leaf n i s x u b'
-  widened-fits u b' k e few sp put = record {
+  pub widened-fits : (o : Option Up) (b' : List ℕ) (k : ℕ) → k ≡ count_in b n → k < 4 → o ≡ None → Put b n (row_word leaf (k + 1) (R 0) (K 0)) b' → Widened b leaf n i s x o b'
+  widened-fits o b' k e few none put = record {
     fits = λ h. record {
-      split = sp;
+      nothing = none;
       node = rw (← e) (at_zero b' n (k + 1) (part-is b b' n 0 (k + 1) (omega arith) (omega arith) put));
       others = λ m d. put_other b n (row_word leaf (k + 1) (R 0) (K 0)) b' put m d;
       root = put.below 0 (omega arith);
@@ -69,14 +70,13 @@ module _ (b : List ℕ) (leaf : Bool) (n i : ℕ) (s : Range) (x : ℕ) (ranges 
     over = λ h. absurd (omega arith);
   }
 
-  pub widened-over : (u : Up) (b₁ b' : List ℕ) (m : ℕ) → 4 ≤ count_in b n → u.split ≡ true → u.node ≡ m → u.range ≡ get_or ranges 2 no_range → m ≤ 63 → count_in b m ≡ 0 → m ≡ free_number b 0
-      → Put b n (row_word leaf 2 (R 0) (K 0)) b₁ → Put b₁ m (row_word leaf 2 (R 3) (K 3)) b' → Widened b leaf n i s x u b'
-  widened-over u b₁ b' m four sp is mid small free low put₁ put₂ = record {
+  pub widened-over : (u : Up) (b₁ b' : List ℕ) (m : ℕ) → 4 ≤ count_in b n → u.node ≡ m → u.range ≡ get_or ranges 2 no_range → m ≤ 63 → count_in b m ≡ 0 → m ≡ free_number b 0
+      → Put b n (row_word leaf 2 (R 0) (K 0)) b₁ → Put b₁ m (row_word leaf 2 (R 3) (K 3)) b' → Widened b leaf n i s x (Some u) b'
+  widened-over u b₁ b' m four is mid small free low put₁ put₂ = record {
     fits = λ h. absurd (omega arith);
     over = λ h.
         let ne : n ≡ m → ⊥ = λ d. let z = ap (count_in b) d in omega arith in
         record {
-          split = sp;
           range = mid ∙ line.range 2 (omega arith);
           number = omega arith;
           taken = rw is free;

@@ -2,6 +2,7 @@
 use mathlib.Core.Path.{◌≡◌, refl, ap, ◌∙◌, sym}
 use mathlib.Core.List.{List, [], ◌∷◌, ◌++◌, append_assoc, append-nil}
 use Prim.Native.Nat.{ℕ, zero, suc, ◌+◌, ◌*◌, ◌<◌, ◌≤◌}
+use Rattle.std.proofs.Math.Nat.{mul-le-mul_left}
 use native.Mathlib.Nat.{zero-add, add-zero, mul-zero, mul-suc}
 use native.Mathlib.Omega.{arith}
 use lib.ListN.{length, get_or, set, take, drop, length-append, drop_of_length-le, get_or-append}
@@ -12,7 +13,6 @@ use Rattle.history.specs.declared.PageEntry.{PageEntry}
 use Rattle.history.specs.declared.RangeEntry.{RangeEntry}
 use Rattle.history.specs.declared.Unit.{Unit as TlbUnit}
 use Rattle.history.specs.Units.{no_page, no_range}
-use Rattle.invalidation.specs.Entries.{with_pages, with_ranges}
 use Rattle.unitwords.specs.UnitWords.{page_entry_at, range_entry_at, unit_of, page_entry_words, range_entry_words, words_behind_entries, joined, words_of}
 
 -- past the end of a list
@@ -42,18 +42,18 @@ module _ {A : Type 0} (f : ℕ → A) (l : List A) where
       let s : n + 1 ≡ suc n = omega arith in
       rw (drop-cons l n d h, set_at (tabulate n f) (get_or l n d) (drop (suc n) l) (f n) n (length-tabulate n f), s, tab-more n 0 f, zero-add n, append_assoc (tab_from n 0 f) (f n ∷ []) (drop (suc n) l))
 
+  pub next-tabled : (now : List A) (n : ℕ) (x : A) → now ≡ tabled_to f n l → n < length l → x ≡ f n → set now n x ≡ tabled_to f (n + 1) l
+  next-tabled now n x sofar h is = rw (sofar, is) (one-tabled n x h)
+
   pub all-tabled : (n k : ℕ) → k ≡ n → length l ≡ n → tabled_to f k l ≡ tabulate n f
   unfolding tabled_to
   all-tabled n k e h = rw (e, none_left l n (omega arith)) (append-nil (tabulate n f))
 
--- one entry more in a unit
-pub next-page : (f : ℕ → PageEntry) (u v : TlbUnit) (n : ℕ) (e d : PageEntry) → v ≡ with_pages u (tabled_to f n u.pages) → n < length u.pages → e ≡ f n
-    → with_pages v (set v.pages n e) ≡ with_pages u (tabled_to f (n + 1) u.pages)
-next-page f u v n e d sofar h is = rw (sofar, is) (ap (with_pages u) (one-tabled f u.pages n d h))
-
-pub next-range : (f : ℕ → RangeEntry) (u v : TlbUnit) (n : ℕ) (e d : RangeEntry) → v ≡ with_ranges u (tabled_to f n u.ranges) → n < length u.ranges → e ≡ f n
-    → with_ranges v (set v.ranges n e) ≡ with_ranges u (tabled_to f (n + 1) u.ranges)
-next-range f u v n e d sofar h is = rw (sofar, is) (ap (with_ranges u) (one-tabled f u.ranges n d h))
+-- entry k of n, of w words each, ends where all of them do or before
+pub entry-ends : (w k n a m : ℕ) → k < n → a + w * n ≤ m → a + w * k + w ≤ m
+entry-ends w k n a m h fits =
+    let more : w * suc k ≤ w * n = mul-le-mul_left w h in
+    omega (arith, mul-suc w k)
 
 -- a list over which the words of the first n entries are written, m words each
 unfoldable pub written_to : {A : Type 0} → (A → List ℕ) → ℕ → ℕ → List A → List ℕ → List ℕ
@@ -109,12 +109,6 @@ module _ {A : Type 0} (f : A → List ℕ) where
       unfolding written_to
       all-written n k z e g = rw (z, take_all n l (omega arith), none_left b (m * n) (omega arith)) (append-nil (joined f l))
 
--- the page entries, the range entries and the rest, read
-pub read_all : (ws : List ℕ) (x y v : TlbUnit) → y ≡ with_pages x (tabulate 64 (page_entry_at ws)) → v ≡ with_ranges y (tabulate 32 (range_entry_at ws))
-    → record { pages = v.pages; ranges = v.ranges; last = get_or ws 512 0; next = get_or ws 513 0; seen = get_or ws 514 0 } ≡ unit_of ws
-unfolding unit_of
-read_all ws x y v e g = rw (g, e)
-
 -- a list with ys written over the n words from place a on
 abbrev over : ℕ → ℕ → List ℕ → List ℕ → List ℕ
 over a n xs ys = take a xs ++ (ys ++ drop n (drop a xs))
@@ -130,12 +124,10 @@ in_three xs p r t ex ep er =
 -- an entry is read where its fields are
 page-made : (ws : List ℕ) (k : ℕ) (e : PageEntry) → get_or ws (5 * k) 0 ≡ e.valid → get_or ws (5 * k + 1) 0 ≡ e.space → get_or ws (5 * k + 2) 0 ≡ e.page → get_or ws (5 * k + 3) 0 ≡ e.frame → get_or ws (5 * k + 4) 0 ≡ e.rights
     → e ≡ page_entry_at ws k
-unfolding page_entry_at
 page-made ws k e v s p f r = rw (page_entry_at, v, s, p, f, r)
 
 range-made : (ws : List ℕ) (k : ℕ) (e : RangeEntry) → get_or ws (320 + 6 * k) 0 ≡ e.valid → get_or ws (320 + 6 * k + 1) 0 ≡ e.space → get_or ws (320 + 6 * k + 2) 0 ≡ e.base → get_or ws (320 + 6 * k + 3) 0 ≡ e.limit → get_or ws (320 + 6 * k + 4) 0 ≡ e.offset → get_or ws (320 + 6 * k + 5) 0 ≡ e.rights
     → e ≡ range_entry_at ws k
-unfolding range_entry_at
 range-made ws k e v s b l o r = rw (range_entry_at, v, s, b, l, o, r)
 
 module _ (u : TlbUnit) (ps : length u.pages ≡ 64) (rs : length u.ranges ≡ 32) where

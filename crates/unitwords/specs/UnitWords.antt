@@ -24,28 +24,22 @@ ranges_from = 320
 abbrev pub last_at : ℕ
 last_at = 512
 
+-- the page entry that the words from place a on are
+abbrev pub page_entry_from : List ℕ → ℕ → PageEntry
+page_entry_from ws a = record { valid = get_or ws a 0; space = get_or ws (a + 1) 0; page = get_or ws (a + 2) 0; frame = get_or ws (a + 3) 0; rights = get_or ws (a + 4) 0 }
+
+-- the range entry that the words from place a on are
+abbrev pub range_entry_from : List ℕ → ℕ → RangeEntry
+range_entry_from ws a =
+    record { valid = get_or ws a 0; space = get_or ws (a + 1) 0; base = get_or ws (a + 2) 0; limit = get_or ws (a + 3) 0; offset = get_or ws (a + 4) 0; rights = get_or ws (a + 5) 0 }
+
 -- page entry k is five words from word 5 k on
 abbrev pub page_entry_at : List ℕ → ℕ → PageEntry
-page_entry_at ws k =
-    record {
-      valid = get_or ws (words_in_page_entry * k) 0;
-      space = get_or ws (words_in_page_entry * k + 1) 0;
-      page = get_or ws (words_in_page_entry * k + 2) 0;
-      frame = get_or ws (words_in_page_entry * k + 3) 0;
-      rights = get_or ws (words_in_page_entry * k + 4) 0;
-    }
+page_entry_at ws k = page_entry_from ws (words_in_page_entry * k)
 
 -- range entry k is six words from word 320 + 6 k on
 abbrev pub range_entry_at : List ℕ → ℕ → RangeEntry
-range_entry_at ws k =
-    record {
-      valid = get_or ws (ranges_from + words_in_range_entry * k) 0;
-      space = get_or ws (ranges_from + words_in_range_entry * k + 1) 0;
-      base = get_or ws (ranges_from + words_in_range_entry * k + 2) 0;
-      limit = get_or ws (ranges_from + words_in_range_entry * k + 3) 0;
-      offset = get_or ws (ranges_from + words_in_range_entry * k + 4) 0;
-      rights = get_or ws (ranges_from + words_in_range_entry * k + 5) 0;
-    }
+range_entry_at ws k = range_entry_from ws (ranges_from + words_in_range_entry * k)
 
 -- the unit that 515 words are
 unfoldable pub unit_of : List ℕ → TlbUnit

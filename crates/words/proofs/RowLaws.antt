@@ -1,7 +1,7 @@
 -- What follows from a call's promise by its row alone, and the promise from what its code knows.
 use mathlib.Core.Path.{◌≡◌, refl, ap, ◌∙◌, sym}
 use mathlib.Core.Bool.{Bool, true, false, ◌&&◌}
-use mathlib.Core.List.{List, [], ◌∷◌, ◌++◌}
+use mathlib.Core.List.{List, [], ◌∷◌}
 use Prim.Native.Nat.{ℕ, zero, suc, ◌<◌, ◌≤◌}
 use native.Mathlib.Omega.{arith}
 use lib.Dec.{leb, eqb}
@@ -11,7 +11,7 @@ use Rattle.words.specs.declared.Outcome.{Outcome}
 use Rattle.words.specs.Refusals.{Refusal, decide, numbers, NoneApplies}
 use Rattle.words.specs.Rows.{refusal, values, accepted, leaves, Row, number_of, outcome_of, Promised, after, Exactly, refusal_order, among, in_order}
 use Rattle.words.proofs.Cases.{by-test, and-true, true-and, true-false}
-use Rattle.words.proofs.RefusalLaws.{applies-answers, answers-applies, none_answers, answers-none, first_part, second-part}
+use Rattle.words.proofs.RefusalLaws.{applies-answers, answers-applies, none_answers, answers-none}
 
 -- none of the numbers is 0
 unfoldable positive : List ℕ → Bool
@@ -123,74 +123,8 @@ module _ {A : Type 0} (w : Row A) (old : A) (o : Outcome) (left : A) (d : Promis
     accepted-none t = promised-exactly.none (eqb-true _ _ t)
 
 -- rows with the same values and number
-same_outcome : {A : Type 0} (w v : Row A) → w.first ≡ v.first → w.second ≡ v.second → number_of w ≡ number_of v → outcome_of w ≡ outcome_of v
+pub same_outcome : {A : Type 0} (w v : Row A) → w.first ≡ v.first → w.second ≡ v.second → number_of w ≡ number_of v → outcome_of w ≡ outcome_of v
 same_outcome w v a b e =
     by-test (eqb (number_of v) 0)
     (λ y. let z = eqb-true _ _ y in accepted-is w (e ∙ z) ∙ ap (λ (n : ℕ). values n w.second) a ∙ ap (values v.first) b ∙ sym (accepted-is v z))
     (λ y. let n = eqb-false _ _ y in refused-is w (λ z. n (sym e ∙ z)) ∙ ap refusal e ∙ sym (refused-is v n))
-
--- the promise of a refused call from the outcome of what its judge answered
-refused-by : {A : Type 0} (w : Row A) (old : A) (o : Outcome) → o ≡ refusal (number_of w) → (o.number ≡ 0 → ⊥) → Promised w old o old
-refused-by w old o oe n =
-    let k : number_of w ≡ 0 → ⊥ = λ z. n (ap (λ (y : Outcome). y.number) oe ∙ z) in
-    record { answers = oe ∙ sym (refused-is w k); leaves-new = kept (number_of w) w.new old k }
-
--- judging in two parts: o is the outcome of what the first judge answered, x the same
-module _ (rs : List (Refusal ℕ)) (i : in_order rs ≡ true) (o x : Outcome) (oe : o ≡ refusal (decide rs 0)) (xe : x ≡ o) where
-  part-number : x.number ≡ decide rs 0
-  part-number = ap (λ (y : Outcome). y.number) (xe ∙ oe)
-
-  pub none_first : x.number ≡ 0 → NoneApplies rs
-  none_first z = zero-none rs i (sym part-number ∙ z)
-
-  pub stops : (qs : List (Refusal ℕ)) → (x.number ≡ 0 → ⊥) → o ≡ refusal (decide (rs ++ qs) 0)
-  stops qs n = oe ∙ ap refusal (sym (first_part rs qs (λ z. n (part-number ∙ z))))
-
-  pub goes_on : (qs : List (Refusal ℕ)) → x.number ≡ 0 → decide (rs ++ qs) 0 ≡ decide qs 0
-  goes_on qs z = second-part rs qs (none_first z)
-
-  -- a call that is judged in two parts
-  module _ {A : Type 0} (w : Row A) (old : A) where
-    pub after-stops : (x.number ≡ 0 → ⊥) → Promised (after rs w) old o old
-    unfolding after number_of
-    after-stops n = refused-by (after rs w) old o (stops w.refusals n) (λ z. n (ap (λ (y : Outcome). y.number) xe ∙ z))
-
-    same_number : x.number ≡ 0 → number_of (after rs w) ≡ number_of w
-    unfolding after number_of
-    same_number z = goes_on w.refusals z
-
-    pub after-goes-on : x.number ≡ 0 → (p : Outcome) (left : A) → Promised w old p left → Promised (after rs w) old p left
-    unfolding after
-    after-goes-on z p left d =
-        let e = same_number z in
-        record { answers = d.answers ∙ sym (same_outcome (after rs w) w refl refl e); leaves-new = d.leaves-new ∙ sym (ap (λ (n : ℕ). leaves n w.new old) e) }
-
-  -- the second part refuses, or none applies
-  pub refused-then : (qs : List (Refusal ℕ)) (n : ℕ) → x.number ≡ 0 → decide qs 0 ≡ n → refusal n ≡ refusal (decide (rs ++ qs) 0)
-  refused-then qs n z e = ap refusal (sym e ∙ sym (goes_on qs z))
-
-  pub judged-then : (qs : List (Refusal ℕ)) → x.number ≡ 0 → decide qs 0 ≡ 0 → o ≡ refusal (decide (rs ++ qs) 0)
-  judged-then qs z e = oe ∙ ap refusal (sym part-number ∙ z ∙ sym (goes_on qs z ∙ e))
-
--- the promise from what the code knows: o is the outcome of what the judge answered, x the same
-module _ {A : Type 0} (w : Row A) (i : in_order w.refusals ≡ true) (old : A) (o x : Outcome) (oe : o ≡ refusal (number_of w)) (xe : x ≡ o) where
-  judged-number : x.number ≡ number_of w
-  judged-number = ap (λ (y : Outcome). y.number) (xe ∙ oe)
-
-  pub refused-call : (x.number ≡ 0 → ⊥) → Promised w old o old
-  refused-call n = refused-by w old o oe (λ z. n (ap (λ (y : Outcome). y.number) xe ∙ z))
-
-  pub none-call : x.number ≡ 0 → NoneApplies w.refusals
-  unfolding number_of
-  none-call z = zero-none w.refusals i (sym judged-number ∙ z)
-
-  pub done-call : x.number ≡ 0 → (left : A) → left ≡ w.new → Promised w old (values w.first w.second) left
-  done-call z left e =
-      let k : number_of w ≡ 0 = sym judged-number ∙ z in
-      record { answers = sym (accepted-is w k); leaves-new = e ∙ renewed (number_of w) w.new old k }
-
-  -- where the judge's answer is the call's
-  pub judged-call : x.number ≡ 0 → w.first ≡ 0 → w.second ≡ 0 → (left : A) → left ≡ w.new → Promised w old o left
-  judged-call z a b left e =
-      let k : o ≡ values w.first w.second = oe ∙ ap refusal (sym judged-number ∙ z) ∙ sym (rw (a, b)) in
-      rw k (done-call z left e)

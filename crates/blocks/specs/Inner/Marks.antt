@@ -1,5 +1,5 @@
 -- Marks: what a preview notes of the blocks that it has chosen, so that it need not write frame words.
-use Rattle.std.specs.Prelude.{◌≡◌, Bool, true, false, ◌&&◌, ◌||◌, not, List, ℕ, ◌+◌, ◌-◌, ◌/◌, ◌%◌, ◌^◌, ◌<◌, ◌≤◌, eqb, get_or}
+use Rattle.std.specs.Prelude.{◌≡◌, Bool, true, false, ◌&&◌, ◌||◌, not, List, ℕ, ◌+◌, ◌-◌, ◌/◌, ◌%◌, ◌^◌, ◌<◌, ◌≤◌, eqb, min, get_or, Option, IfSome, IfNone, MatchOption}
 use Rattle.std.proofs.Math.Option.{none, some}
 use Rattle.words.specs.Bits.{has_bit}
 use Rattle.words.specs.Counts.{count}
@@ -11,7 +11,7 @@ use Rattle.blocks.specs.FrameWords.{largest_pool, free_in, first_of, lawful}
 use Rattle.blocks.specs.Choice.{take_block, end_of, HeldBefore}
 use Rattle.blocks.specs.Inner.Around.{start_of}
 use Rattle.blocks.specs.Inner.Taking.{Searched, BlockTaken}
-use Rattle.blocks.specs.Inner.Passes.{order_within, least, as_block}
+use Rattle.blocks.specs.Inner.Passes.{order_within}
 
 -- word 0: whether the rest of the call's pages come from the wished frame on; then a bit for each frame: the free block that starts there in the words lent is left no more
 abbrev pub mark_words : ℕ
@@ -34,22 +34,23 @@ pub record Stands (F : ℕ) (b m w : List ℕ) : Type 0 where
   -- a frame that is free in w is free in the words lent
   pub free : (g : ℕ) → g < F → free_in w g ≡ true → free_in b g ≡ true
 
--- whatever words the marks stand for: r is the old choice where top is the largest order that can be chosen, and begins a free block of the order that r says
-pub record Finds (F : ℕ) (b m : List ℕ) (top : ℕ) (known : Bound) (r : Cut) : Type 0 where
-  pub block : (w : List ℕ) (left L : ℕ) → Stands F b m w → Searched F (free_in w) known → order_within left ≡ some L → top ≡ least L known.limit → r.block ≡ as_block (take_block F (free_in w) none left)
-  pub first : (w : List ℕ) → Stands F b m w → Searched F (free_in w) known → r.block.order ≤ largest_order
-      → (r.block.order ≤ r.top) × (r.block.start.0 < F) × (get_or w r.block.start.0 0 ≡ first_of r.top)
+-- whatever words the marks stand for: r is the old choice, or none where that is none, where top is the largest order that can be chosen, and begins a free block of the order that r says
+pub record Finds (F : ℕ) (b m : List ℕ) (top : ℕ) (known : Bound) (r : Option Cut) : Type 0 where
+  pub block : (w : List ℕ) (left L : ℕ) → Stands F b m w → Searched F (free_in w) known → order_within left ≡ some L → top ≡ min L known.limit
+      → MatchOption r (take_block F (free_in w) none left ≡ none) (λ c. take_block F (free_in w) none left ≡ some c.block)
+  pub first : (w : List ℕ) → Stands F b m w → Searched F (free_in w) known → IfSome r (λ c. (c.block.order ≤ c.top) × (c.block.start.0 < F) × (get_or w c.block.start.0 0 ≡ first_of c.top))
 
--- whatever words the marks stand for: r is the order of the free block that holds the block of order k at the wish, or 11 where the wish is not met
-pub record Wished (F : ℕ) (b m : List ℕ) (wish k r : ℕ) : Type 0 where
-  pub met : (w : List ℕ) → Stands F b m w → r ≤ largest_order → (wholly_free F (free_in w) k wish ≡ true) × (k ≤ r) × (start_of r wish < F) × (get_or w (start_of r wish) 0 ≡ first_of r)
-  pub not-met : (w : List ℕ) → Stands F b m w → largest_order < r → wholly_free F (free_in w) k wish ≡ false
+-- whatever words the marks stand for: r is the order of the free block that holds the block of order k at the wish, or none where the wish is not met
+pub record Wished (F : ℕ) (b m : List ℕ) (wish k : ℕ) (r : Option ℕ) : Type 0 where
+  pub met : (w : List ℕ) → Stands F b m w → IfSome r (λ j. (wholly_free F (free_in w) k wish ≡ true) × (k ≤ j) × (start_of j wish < F) × (get_or w (start_of j wish) 0 ≡ first_of j))
+  pub not-met : (w : List ℕ) → Stands F b m w → IfNone r (wholly_free F (free_in w) k wish ≡ false)
 
--- whatever words the marks stand for: r is the block that the rule takes of them with this wish, or order 11 for none, and a part of the free block of order r .top around it
-pub record Chooses (F : ℕ) (b m : List ℕ) (wish left : ℕ) (known : Bound) (r : Cut) : Type 0 where
-  pub block : (w : List ℕ) → Stands F b m w → Searched F (free_in w) known → r.block ≡ as_block (take_block F (free_in w) (some wish) left)
-  pub first : (w : List ℕ) → Stands F b m w → Searched F (free_in w) known → r.block.order ≤ largest_order
-      → (r.block.order ≤ r.top) × (start_of r.top r.block.start.0 < F) × (get_or w (start_of r.top r.block.start.0) 0 ≡ first_of r.top)
+-- whatever words the marks stand for: r is the block that the rule takes of them with this wish, or none where it takes none, and a part of the free block of the order that r says around it
+pub record Chooses (F : ℕ) (b m : List ℕ) (wish left : ℕ) (known : Bound) (r : Option Cut) : Type 0 where
+  pub block : (w : List ℕ) → Stands F b m w → Searched F (free_in w) known
+      → MatchOption r (take_block F (free_in w) (some wish) left ≡ none) (λ c. take_block F (free_in w) (some wish) left ≡ some c.block)
+  pub first : (w : List ℕ) → Stands F b m w → Searched F (free_in w) known
+      → IfSome r (λ c. (c.block.order ≤ c.top) × (start_of c.top c.block.start.0 < F) × (get_or w (start_of c.top c.block.start.0) 0 ≡ first_of c.top))
 
 -- the block of some order at the wish is wholly free, and has at least as many frames as pages are left: all of them come from it
 pub record Ahead (F : ℕ) (free : ℕ → Bool) (wish left : ℕ) : Type 0 where

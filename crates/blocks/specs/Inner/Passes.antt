@@ -1,12 +1,12 @@
 -- What the inner functions of the pool promise, and nothing else does: each a step of a pass over the buffer, said of single words.
-use Rattle.std.specs.Prelude.{◌≡◌, Bool, true, false, ◌&&◌, not, List, ℕ, ◌+◌, ◌-◌, ◌^◌, ◌<◌, ◌≤◌, leb, ltb, eqb, get_or}
-use Rattle.std.proofs.Math.Option.{Option, none, some}
+use Rattle.std.specs.Prelude.{◌≡◌, Bool, true, false, ◌&&◌, List, ℕ, ◌+◌, ◌-◌, ◌^◌, ◌<◌, ◌≤◌, leb, ltb, eqb, min, get_or}
+use Rattle.std.proofs.Math.Option.{Option, some}
 use Rattle.words.specs.Counts.{one-if}
 use Rattle.words.specs.Searches.{any_from, largest}
 use Rattle.words.specs.Inner.{ChangedTo}
 use Rattle.blocks.specs.declared.Block.{Block}
 use Rattle.blocks.specs.declared.Bound.{Bound}
-use Rattle.blocks.specs.Blocks.{largest_order, orders, block, in_block}
+use Rattle.blocks.specs.Blocks.{largest_order, in_block}
 use Rattle.blocks.specs.FrameWords.{owners_of, free_in, owned_in, first_of, frame_word}
 use Rattle.blocks.specs.Owners.{cleared}
 use Rattle.blocks.specs.Choice.{end_of}
@@ -27,15 +27,16 @@ pub record SettledTo (F : ℕ) (b : List ℕ) (f r : ℕ) (b' : List ℕ) : Type
   pub above : (g : ℕ) → r ≤ g → get_or b' g 0 ≡ get_or b g 0
   pub edge : Edge F (free_in b) r
 
--- the frame after the free block at f where its words are lawful, or 0 where a word below F is not
+-- r is the frame after the free block at f, and the words of that are lawful
 pub record Checked (F : ℕ) (b : List ℕ) (f r : ℕ) : Type 0 where
-  pub good : (r ≡ 0 → ⊥) → SettledTo F b f r b
+  pub settled : SettledTo F b f r b
   pub free : (g : ℕ) → f ≤ g → g < r → owned_in b g ≡ false
-  pub bad : r ≡ 0 → (g : ℕ) × (g < F) × (get_or b g 0 ≡ frame_word F (owners_of b) g → ⊥)
 
--- whether a frame is held, or free, as is sought
-unfoldable pub sought : Bool → Bool → Bool
-sought held free = elim held [ true ↦ not free | false ↦ free ]
+-- a word below F is not lawful
+pub record Wrong (F : ℕ) (b : List ℕ) : Type 0 where
+  pub place : ℕ
+  pub below : place < F
+  pub differs : get_or b place 0 ≡ frame_word F (owners_of b) place → ⊥
 
 -- the frames from s up to r, r left out and at most e, are held
 pub record HeldTo (b : List ℕ) (s e r : ℕ) : Type 0 where
@@ -53,17 +54,9 @@ order_within left = largest largest_order (λ i. leb (2 ^ i) left)
 unfoldable pub order_at : ℕ → ℕ → ℕ → ℕ
 order_at limit top t = elim (leb (top + t) limit) [ true ↦ top + t | false ↦ limit - t ]
 
-unfoldable pub least : ℕ → ℕ → ℕ
-least a b = elim (ltb a b) [ true ↦ a | false ↦ b ]
-
 -- r is the largest order up to limit whose size is at most the pages left
 pub record TopOrder (left limit r : ℕ) : Type 0 where
-  pub is-least : (L : ℕ) → order_within left ≡ some L → r ≡ least L limit
-
--- a block, or order 11 for none
-unfoldable pub as_block : Option Block → Block
-as_block none = block orders 0
-as_block (some b) = b
+  pub is-least : (L : ℕ) → order_within left ≡ some L → r ≡ min L limit
 
 -- where the scan for order k starts
 unfoldable pub scan_from : Bound → ℕ → ℕ

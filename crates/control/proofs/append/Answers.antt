@@ -1,12 +1,9 @@
-use mathlib.Core.Path.{sym, ap, ◌∙◌}
+use mathlib.Core.Path.{ap}
 use Prim.Native.Nat.{ℕ, ◌+◌}
 use native.Mathlib.Omega.{arith}
 use lib.ListN.{length-set}
 use Rattle.control.proofs.ControlLaws.{append-is}
 use Rattle.control.proofs.append.Goals as goal
-
-pub next_number-m-requires : goal.next_number-m-requires
-next_number-m-requires c = λ e. c.requires.number_left (sym c.removal_count.ensures ∙ e)
 
 pub word_of_place-at-requires : goal.word_of_place-at-requires
 word_of_place-at-requires c = omega arith
@@ -21,4 +18,4 @@ pub bounds-control-at-3 : goal.bounds-control-at-3
 bounds-control-at-3 c = simp length-set (omega arith)
 
 pub returns : goal.returns
-returns c = append-is _ _ _ _ _ _ (c.next_number-m.ensures ∙ ap (λ (x : ℕ). x + 1) c.removal_count.ensures) c.word_of_place-at.ensures.value
+returns c = append-is _ _ _ _ _ _ (ap (λ (x : ℕ). x + 1) c.removal_count-m.ensures) c.word_of_place-at.ensures.value

@@ -1,6 +1,6 @@
-use borrow.Author.Rules.{rules}
+use Rattle.std.proofs.Common.{rules}
 use Rattle.control.proofs.ControlLaws.{fresh-is}
 use Rattle.control.proofs.fresh_control.Goals as goal
 
 pub returns : goal.returns
-returns c = fresh-is _ _ _ c.fill.ensures (search rules)
+returns c = fresh-is _ c.fill.new.self (λ i h. search rules) (search rules)

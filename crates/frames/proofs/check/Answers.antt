@@ -1,15 +1,9 @@
-use mathlib.Core.Path.{sym, ◌∙◌}
-use Rattle.blocks.proofs.CallLaws.{check-length, check-size, check-unlawful, check_done}
+use Rattle.std.proofs.lemmas.Result.{err_from_is_err_and}
+use Rattle.blocks.proofs.CallLaws.{passed, check-stopped, check_done}
 use Rattle.frames.proofs.check.Goals as goal
 
-pub returns-then-frames-ne-BUFFER_WORDS : goal.returns-then-frames-ne-BUFFER_WORDS
-returns-then-frames-ne-BUFFER_WORDS c = check-length _ _ c.if-frames-ne-BUFFER_WORDS.true
-
-pub returns-then-not-size : goal.returns-then-not-size
-returns-then-not-size c = check-size _ _ c.if-frames-ne-BUFFER_WORDS.false (sym c.is_pool_size-size.ensures ∙ c.if-not-size.true)
-
-pub returns-then-not-good : goal.returns-then-not-good
-returns-then-not-good c = check-unlawful _ _ c.if-frames-ne-BUFFER_WORDS.false (sym c.is_pool_size-size.ensures ∙ c.if-not-size.false) (sym c.lawful-good.ensures ∙ c.if-not-good.true)
+pub returns-in_err-judge : goal.returns-in_err-judge
+returns-in_err-judge c = let p = err_from_is_err_and c.from_residual.result c.from_residual.ensures.1 in rw (p.1, p.2) (check-stopped _ _ _ c.in_err-judge.ensures)
 
 pub returns : goal.returns
-returns c = check_done _ _ (sym c.lawful-good.ensures ∙ c.if-not-good.false)
+returns c = check_done _ _ (passed _ _ c.in_ok-judge.ensures) _ c.from.ensures

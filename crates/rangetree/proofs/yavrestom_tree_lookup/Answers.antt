@@ -5,4 +5,4 @@ pub returns-then-values-ne-VALUES : goal.returns-then-values-ne-VALUES
 returns-then-values-ne-VALUES c = place-refused _ _ _ c.if-values-ne-VALUES.true
 
 pub returns : goal.returns
-returns c = place-given _ _ _ c.if-values-ne-VALUES.false _ c.lookup-o.ensures _ _ c.give.ensures
+returns c = place-given _ _ _ c.if-values-ne-VALUES.false _ c.lookup.ensures _ _ (rw c.outcome.ensures at c.give.ensures)

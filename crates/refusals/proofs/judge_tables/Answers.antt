@@ -1,6 +1,5 @@
 use mathlib.Core.Path.{ap, sym, ◌∙◌}
 use mathlib.Core.Bool.{not}
-use Rattle.words.specs.Rows.{refusal}
 use Rattle.words.proofs.RefusalLaws.{refused, passed, decided}
 use Rattle.layout.proofs.SoundLaws.{lengths-at}
 use Rattle.refusals.specs.Inner.{of_tables}
@@ -8,7 +7,7 @@ use Rattle.refusals.proofs.judge_tables.Goals as goal
 
 pub returns-then-not-right_lengths : goal.returns-then-not-right_lengths
 unfolding of_tables
-returns-then-not-right_lengths c = ap refusal (sym (refused _ _ _ _ (ap not (sym c.right_lengths.ensures ∙ c.if-not-right_lengths.true))))
+returns-then-not-right_lengths c = sym (refused _ _ _ _ (ap not (sym c.right_lengths.ensures ∙ c.if-not-right_lengths.true)))
 
 pub tables_sound-requires : goal.tables_sound-requires
 tables_sound-requires c = let l = lengths-at _ (sym c.right_lengths.ensures ∙ c.if-not-right_lengths.false) in
@@ -16,8 +15,8 @@ tables_sound-requires c = let l = lengths-at _ (sym c.right_lengths.ensures ∙ 
 
 pub returns-then-not-tables_sound : goal.returns-then-not-tables_sound
 unfolding of_tables
-returns-then-not-tables_sound c = ap refusal (sym (passed _ _ _ _ (ap not (sym c.right_lengths.ensures ∙ c.if-not-right_lengths.false)) ∙ refused _ _ _ _ (ap not (sym c.tables_sound.ensures ∙ c.if-not-tables_sound.true))))
+returns-then-not-tables_sound c = sym (passed _ _ _ _ (ap not (sym c.right_lengths.ensures ∙ c.if-not-right_lengths.false)) ∙ refused _ _ _ _ (ap not (sym c.tables_sound.ensures ∙ c.if-not-tables_sound.true)))
 
 pub returns : goal.returns
 unfolding of_tables
-returns c = ap refusal (sym (passed _ _ _ _ (ap not (sym c.right_lengths.ensures ∙ c.if-not-right_lengths.false)) ∙ passed _ _ _ _ (ap not (sym c.tables_sound.ensures ∙ c.if-not-tables_sound.false)) ∙ decided _))
+returns c = sym (passed _ _ _ _ (ap not (sym c.right_lengths.ensures ∙ c.if-not-right_lengths.false)) ∙ passed _ _ _ _ (ap not (sym c.tables_sound.ensures ∙ c.if-not-tables_sound.false)) ∙ decided _)

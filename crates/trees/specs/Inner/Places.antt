@@ -1,5 +1,5 @@
 -- Rows by place: functions that give the range and the child at each place.
-use Rattle.std.specs.Prelude.{Bool, cond, ℕ, zero, suc, ◌+◌, ◌-◌, ◌/◌, ◌%◌, ltb, eqb}
+use Rattle.std.specs.Prelude.{Bool, true, false, cond, ℕ, zero, suc, ◌+◌, ◌-◌, ◌/◌, ◌%◌, ◌≤◌, ◌<◌, ltb, eqb}
 use Rattle.trees.specs.declared.Range.{Range}
 use Rattle.trees.specs.Nodes.{leaf_word, field_of}
 use Rattle.trees.specs.Inner.Walk.{kids}
@@ -12,10 +12,20 @@ placed T s a j = cond (eqb j s) a (T j)
 unfoldable pub opened : {A : Type 0} → (ℕ → A) → ℕ → A → ℕ → A
 opened T s a j = cond (ltb j s) (T j) (cond (eqb j s) a (T (j - 1)))
 
+-- i is the first of k places where what stands there passes, or the place behind them; `passes` says what a test answers
+pub record FirstPlace {A : Type 0} (passes : A → Bool → Type 0) (r : ℕ → A) (k i : ℕ) : Type 0 where
+  pub within : i ≤ k
+  pub before : (j : ℕ) → j < i → passes (r j) false
+  pub there : i < k → passes (r i) true
+
+-- the first of k places from i on that passes, or the place behind them
+unfoldable pub first_at : (ℕ → Bool) → ℕ → ℕ → ℕ
+first_at t zero i = i
+first_at t (suc k) i = cond (t i) i (first_at t k (suc i))
+
 -- the first of k places from i on whose range has a higher BASE than b
-unfoldable pub slot_by : (ℕ → Range) → ℕ → ℕ → ℕ → ℕ
-slot_by r b zero i = i
-slot_by r b (suc k) i = cond (ltb b (r i).base) i (slot_by r b k (suc i))
+abbrev pub slot_by : (ℕ → Range) → ℕ → ℕ → ℕ → ℕ
+slot_by r b k i = first_at (λ j. ltb b (r j).base) k i
 
 -- word j of a node of k ranges
 unfoldable pub row_word : Bool → ℕ → (ℕ → Range) → (ℕ → ℕ) → ℕ → ℕ

@@ -1,18 +1,17 @@
 -- What the inner functions of a removal ask and promise.
-use Rattle.std.specs.Prelude.{◌≡◌, Bool, true, false, cond, ◌&&◌, List, [], ◌∷◌, ℕ, zero, suc, ◌+◌, ◌-◌, ◌*◌, ◌≤◌, ◌<◌, eqb, ltb, get_or}
+use Rattle.std.specs.Prelude.{◌≡◌, Bool, true, false, cond, not, ◌&&◌, List, [], ◌∷◌, ℕ, zero, suc, ◌+◌, ◌-◌, ◌*◌, ◌≤◌, ◌<◌, eqb, ltb, get_or}
 use Rattle.trees.specs.declared.Range.{Range}
 use Rattle.trees.specs.Nodes.{count_in, leaf_in, range_in, child_in, leaf_word, no_range, SameNode}
 use Rattle.trees.specs.Trees.{Branch, Row, Node, Tree, nodes, tree_at, occ}
 use Rattle.trees.specs.Insertion.{before}
 use Rattle.trees.specs.Removal.{mended, Taken, take_at, removal_way}
 use Rattle.trees.specs.Inner.Walk.{zeros_in, kids}
-use Rattle.trees.specs.Inner.Places.{opened, placed, closed, behind}
+use Rattle.trees.specs.Inner.Places.{first_at, opened, placed, closed, behind}
 use Rattle.trees.specs.Inner.Standing.{NodeIs, Stands}
 
 -- the first of k places from i on whose range has no lower BASE than c
-unfoldable pub slot_under : (ℕ → Range) → ℕ → ℕ → ℕ → ℕ
-slot_under r c zero i = i
-slot_under r c (suc k) i = cond (ltb (r i).base c) (slot_under r c k (suc i)) i
+abbrev pub slot_under : (ℕ → Range) → ℕ → ℕ → ℕ → ℕ
+slot_under r c k i = first_at (λ j. not (ltb (r j).base c)) k i
 
 -- place i of k places, or the last one
 unfoldable pub within : ℕ → ℕ → ℕ

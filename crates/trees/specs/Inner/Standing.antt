@@ -1,5 +1,5 @@
 -- What a buffer holds, said of its nodes: what the inner functions ask and promise.
-use Rattle.std.specs.Prelude.{◌≡◌, Bool, true, false, cond, List, ◌++◌, ℕ, zero, suc, ◌+◌, ◌*◌, ◌≤◌, ◌<◌, eqb, length, get_or, drop}
+use Rattle.std.specs.Prelude.{◌≡◌, Bool, true, cond, List, ◌++◌, Option, None, MatchOption, ℕ, zero, suc, ◌+◌, ◌*◌, ◌≤◌, ◌<◌, eqb, length, get_or, drop}
 use Rattle.trees.specs.declared.Range.{Range}
 use Rattle.trees.specs.declared.Up.{Up}
 use Rattle.trees.specs.Nodes.{count_in, leaf_in, range_in, child_in, leaf_word, no_range, no_root, SameNode}
@@ -63,15 +63,14 @@ pub record Ready (b : List ℕ) (h n : ℕ) (r : Range) : Type 0 where
 -- Adding range s and node x at place i of node n
 
 -- it has room
-pub record Absorbed (b : List ℕ) (leaf : Bool) (n i : ℕ) (s : Range) (x : ℕ) (u : Up) (b' : List ℕ) : Type 0 where
-  pub split : u.split ≡ false
+pub record Absorbed (b : List ℕ) (leaf : Bool) (n i : ℕ) (s : Range) (x : ℕ) (o : Option Up) (b' : List ℕ) : Type 0 where
+  pub nothing : o ≡ None
   pub node : NodeIs b' leaf n (count_in b n + 1) (opened (range_in b n) i s) (opened (child_in b n) (i + 1) x)
   pub others : (m : ℕ) → (m ≡ n → ⊥) → SameNode b b' m
   pub root : get_or b' 0 0 ≡ get_or b 0 0
 
 -- it has four ranges: two stay, the middle goes up, two go to a node newly taken, the lowest unused one
 pub record Halved (b : List ℕ) (leaf : Bool) (n i : ℕ) (s : Range) (x : ℕ) (u : Up) (b' : List ℕ) : Type 0 where
-  pub split : u.split ≡ true
   pub range : u.range ≡ opened (range_in b n) i s 2
   pub number : u.node ≤ 63
   pub taken : count_in b u.node ≡ 0
@@ -81,28 +80,28 @@ pub record Halved (b : List ℕ) (leaf : Bool) (n i : ℕ) (s : Range) (x : ℕ)
   pub others : (m : ℕ) → (m ≡ n → ⊥) → (m ≡ u.node → ⊥) → SameNode b b' m
   pub root : get_or b' 0 0 ≡ get_or b 0 0
 
-pub record Widened (b : List ℕ) (leaf : Bool) (n i : ℕ) (s : Range) (x : ℕ) (u : Up) (b' : List ℕ) : Type 0 where
-  pub fits : count_in b n ≤ 3 → Absorbed b leaf n i s x u b'
-  pub over : count_in b n ≡ 4 → Halved b leaf n i s x u b'
+pub record Widened (b : List ℕ) (leaf : Bool) (n i : ℕ) (s : Range) (x : ℕ) (o : Option Up) (b' : List ℕ) : Type 0 where
+  pub fits : count_in b n ≤ 3 → Absorbed b leaf n i s x o b'
+  pub over : count_in b n ≡ 4 → MatchOption o ⊥ (λ u. Halved b leaf n i s x u b')
 
 -- What an insertion leaves
 
-abbrev pub Result : List ℕ → (h : ℕ) → ℕ → Up → List ℕ → Grown (Tree h) → Type 0
-Result b h n u b' (whole t) = record { split : u.split ≡ false; tree : tree_at b' h n ≡ t; stands : (least : ℕ) → Stands b h least n → Stands b' h least n }
-Result b h n u b' (parts a s c) =
-    record {
-      split : u.split ≡ true;
-      range : u.range ≡ s;
-      left : tree_at b' h n ≡ a;
-      right : tree_at b' h u.node ≡ c;
-      stands : Stands b' h 2 n;
-      behind : Stands b' h 2 u.node;
-      -- a node is taken on each level, the lowest unused one
-      free : free_list b' ≡ drop h (free_list b);
-    }
+-- the subtree was parted, and u goes up
+pub record Parted (b : List ℕ) (h n : ℕ) (u : Up) (b' : List ℕ) (a : Tree h) (s : Range) (c : Tree h) : Type 0 where
+  pub range : u.range ≡ s
+  pub left : tree_at b' h n ≡ a
+  pub right : tree_at b' h u.node ≡ c
+  pub stands : Stands b' h 2 n
+  pub behind : Stands b' h 2 u.node
+  -- a node is taken on each level, the lowest unused one
+  pub free : free_list b' ≡ drop h (free_list b)
 
-pub record Grew (b : List ℕ) (h n : ℕ) (r : Range) (u : Up) (b' : List ℕ) : Type 0 where
-  pub result : Result b h n u b' (insert_at (free_number b) r h (tree_at b h n))
+abbrev pub Result : List ℕ → (h : ℕ) → ℕ → Option Up → List ℕ → Grown (Tree h) → Type 0
+Result b h n o b' (whole t) = record { nothing : o ≡ None; tree : tree_at b' h n ≡ t; stands : (least : ℕ) → Stands b h least n → Stands b' h least n }
+Result b h n o b' (parts a s c) = MatchOption o ⊥ (λ u. Parted b h n u b' a s c)
+
+pub record Grew (b : List ℕ) (h n : ℕ) (r : Range) (o : Option Up) (b' : List ℕ) : Type 0 where
+  pub result : Result b h n o b' (insert_at (free_number b) r h (tree_at b h n))
   -- of the nodes of before only those on the way are written, and none that is outside now
   pub stay : (m : ℕ) → 1 ≤ occ m (nodes h (tree_at b h n)) → occ m (insertion_way r.base h (tree_at b h n)) ≡ 0 → SameNode b b' m
   pub others : (m : ℕ) → occ m (grown_nodes h (insert_at (free_number b) r h (tree_at b h n))) ≡ 0 → SameNode b b' m

@@ -1,5 +1,5 @@
 -- The check that the calls make of a buffer: one walk in order from the root, that marks each node met and carries the lowest BASE that may follow; then every node not met is zero. That it finds just the lawful buffers is the statement `LawfulExactly`.
-use Rattle.std.specs.Prelude.{Bool, true, false, cond, ◌&&◌, List, ℕ, zero, suc, ◌+◌, ◌-◌, ◌*◌, leb, eqb, get_or, set, replicate}
+use Rattle.std.specs.Prelude.{Bool, true, false, cond, not, ◌&&◌, ◌||◌, List, Option, Some, None, option_and_then, ℕ, zero, suc, ◌+◌, ◌-◌, ◌*◌, leb, eqb, get_or, set, replicate}
 use Rattle.words.specs.Searches.{all_from}
 use Rattle.words.specs.Inner.{same_in}
 use Rattle.trees.specs.declared.Range.{Range}
@@ -25,42 +25,43 @@ node_fits b leaf least n =
     && (zeros_in b n (2 + count_in b n * 4) 18
     && zeros_in b n (18 + kids leaf (count_in b n)) 24)))
 
--- a walk that has found something unlawful
-unfoldable pub failed : Walk → Walk
-failed w = record { ok = false; low = w.low; seen = w.seen }
-
 -- node n is met
 unfoldable pub met : Walk → ℕ → Walk
-met w n = record { ok = w.ok; low = w.low; seen = set w.seen n 1 }
+met w n = record { low = w.low; seen = set w.seen n true }
 
--- range r follows
-unfoldable pub passed : Walk → Range → Walk
-passed w r = cond (leb w.low r.base && proper r) (record { ok = w.ok; low = r.limit; seen = w.seen }) (failed w)
+-- range r follows, if it may: a walk that finds something unlawful ends with none
+unfoldable pub passed : Walk → Range → Option Walk
+passed w r = cond (leb w.low r.base && proper r) (Some (record { low = r.limit; seen = w.seen })) None
 
 -- node n may stand here: it is one of the 64, not yet met, and its words fit
 unfoldable pub enters : List ℕ → Bool → ℕ → ℕ → Walk → Bool
-enters b leaf least n w = leb n 63 && (eqb (get_or w.seen n 0) 0 && node_fits b leaf least n)
+enters b leaf least n w = leb n 63 && (not (get_or w.seen n false) && node_fits b leaf least n)
 
 -- k ranges of node n from the i-th on, each after the child to its left, and the last child; g walks a child
-unfoldable pub visit_from : (ℕ → Walk → Walk) → List ℕ → ℕ → ℕ → ℕ → Walk → Walk
+unfoldable pub visit_from : (ℕ → Walk → Option Walk) → List ℕ → ℕ → ℕ → ℕ → Walk → Option Walk
 visit_from g b n zero i w = g (child_in b n i) w
-visit_from g b n (suc k) i w = visit_from g b n k (suc i) (passed (g (child_in b n i) w) (range_in b n i))
+visit_from g b n (suc k) i w = option_and_then (λ v. option_and_then (λ x. visit_from g b n k (suc i) x) (passed v (range_in b n i))) (g (child_in b n i) w)
 
 -- the subtree of a height at node n
-unfoldable pub visit : List ℕ → ℕ → ℕ → ℕ → Walk → Walk
-visit b zero least n w = w
-visit b (suc h) least n w = cond (enters b (eqb h 0) least n w) (visit_from (visit b h 2) b n (count_in b n) 0 (met w n)) (failed w)
+unfoldable pub visit : List ℕ → ℕ → ℕ → ℕ → Walk → Option Walk
+visit b zero least n w = Some w
+visit b (suc h) least n w = cond (enters b (eqb h 0) least n w) (visit_from (visit b h 2) b n (count_in b n) 0 (met w n)) None
 
 unfoldable pub start : Walk
-start = record { ok = true; low = 0; seen = replicate 64 0 }
+start = record { low = 0; seen = replicate 64 false }
 
 -- the walk over the whole tree; the root may have one range
-unfoldable pub walked : List ℕ → Walk
+unfoldable pub walked : List ℕ → Option Walk
 walked b = visit b (height_of b) 1 (root_in b) start
 
 -- a node that was not met is zero
-unfoldable pub free_fits : List ℕ → List ℕ → ℕ → Bool
-free_fits b seen n = cond (eqb (get_or seen n 0) 0) (zeros_in b n 0 24) true
+unfoldable pub free_fits : List ℕ → List Bool → ℕ → Bool
+free_fits b seen n = get_or seen n false || zeros_in b n 0 24
+
+-- a walk that came through, and every node that it did not meet is zero
+unfoldable pub came_through : List ℕ → Option Walk → Bool
+came_through b None = false
+came_through b (Some w) = all_from 64 0 (free_fits b w.seen)
 
 unfoldable pub lawful : List ℕ → Bool
-lawful b = (walked b).ok && all_from 64 0 (free_fits b (walked b).seen)
+lawful b = came_through b (walked b)

@@ -8,5 +8,5 @@ returns c =
     let u = c.args.u in
     let ps : length u.pages ≡ 64 = c.well_formed.1.0.1.1.0.1.0.1 in
     let rs : length u.ranges ≡ 32 = c.well_formed.1.0.1.1.1.0.1.0.1 in
-    let w = write-all u ps rs c.args.words.now _ _ _ c.requires c.write_pages.ensures c.write_ranges.ensures c.write_last.ensures in
+    let w = write-all u ps rs c.args.words.now _ _ _ c.requires c.write_entries.ensures c.write_entries-2.ensures c.copy_from_slice.ensures.after in
     record { words_after = w; reads_back = same-unit u ps rs _ w }

@@ -1,20 +1,10 @@
-use mathlib.Core.Path.{◌≡◌, refl, sym, ◌∙◌}
+use mathlib.Core.Path.{refl, ◌∙◌}
 use native.Mathlib.Omega.{arith}
-use lib.ListN.{length, take}
-use lib.Seq.{length-take-le}
 use Rattle.coretrace.proofs.InputLaws.{shorter}
 use Rattle.coretrace.proofs.input.read_on.Goals as goal
 
 pub loop-stdin-init : goal.loop-stdin-init
 loop-stdin-init g c = (refl, (omega arith, (omega arith, refl)))
-
-pub slice_bounds-standing-end-in-loop-stdin : goal.slice_bounds-standing-end-in-loop-stdin
-slice_bounds-standing-end-in-loop-stdin g c = sym (length-take-le c.loop-stdin.to c.loop-stdin.buffer (omega arith))
-
-pub read_to-got-requires : goal.read_to-got-requires
-read_to-got-requires g c = let e : length (take c.loop-stdin.to c.loop-stdin.buffer) ≡ c.loop-stdin.to = length-take-le c.loop-stdin.to c.loop-stdin.buffer (omega arith) in
-    let s = c.standing.ensures.bytes_len_bound c.loop-stdin-test.true in
-    omega arith
 
 pub loop-stdin-preserved : goal.loop-stdin-preserved
 loop-stdin-preserved g c = (

@@ -1,8 +1,11 @@
+use mathlib.Core.Path.{◌∙◌}
+use native.Mathlib.Omega.{arith}
+use borrow.Author.Tests.{lt-leb}
 use Rattle.blocks.proofs.FreeLaws.{span-low, span-high}
 use Rattle.framewords.proofs.owners.in_span.Goals as goal
 
-pub returns-then-w-owner : goal.returns-then-w-owner
-returns-then-w-owner c = span-low _ _ _ c.if-w-owner.true
+pub returns-then-owner-w : goal.returns-then-owner-w
+returns-then-owner-w c = span-high _ _ _ c.if-owner-w.true
 
-pub returns : goal.returns
-returns c = span-high _ _ _ c.if-w-owner.false
+pub returns-else-owner-w : goal.returns-else-owner-w
+returns-else-owner-w c = lt-leb _ _ (omega (arith, c.if-owner-w.false)) ∙ span-low _ _ _ (omega (arith, c.if-owner-w.false))

@@ -1,13 +1,16 @@
-use Rattle.invalidation.proofs.RecordLaws.{far-behind, near-behind}
+use Rattle.invalidation.proofs.RecordLaws.{applied-step, applied-end, far-behind, near-behind}
 use native.Mathlib.Omega.{arith}
-use mathlib.Core.Path.{◌∙◌}
+use mathlib.Core.Path.{refl, sym, ◌∙◌}
 use Rattle.invalidation.proofs.catch_up.caught_up.Goals as goal
 
 pub returns-then-c-seen-gt-PLACES : goal.returns-then-c-seen-gt-PLACES
-returns-then-c-seen-gt-PLACES c = c.emptied.ensures ∙ far-behind _ _ _ c.removal_count-c.ensures (omega arith)
+returns-then-c-seen-gt-PLACES c = c.emptied.ensures ∙ far-behind _ _ _ c.removal_count-c.ensures c.if-c-seen-gt-PLACES.true
 
-pub drop_unseen-v-requires : goal.drop_unseen-v-requires
-drop_unseen-v-requires c = record { control_len = c.requires.control_len; control_value = c.requires.control_value; c_value = c.removal_count-c.ensures; seen_le_c = omega arith }
+pub loop-m-init : goal.loop-m-init
+loop-m-init c = refl
+
+pub loop-m-preserved : goal.loop-m-preserved
+loop-m-preserved c = c.loop-m.invariant ∙ applied-step _ _ _ _ c.loop-m-test.true ∙ rw (c.drop_named.ensures, c.removal_at.ensures) refl
 
 pub returns : goal.returns
-returns c = near-behind _ _ _ c.removal_count-c.ensures _ (omega arith) c.drop_unseen-v.ensures
+returns c = near-behind _ _ _ c.removal_count-c.ensures _ (omega arith) (applied-end _ _ _ _ c.loop-m-test.false ∙ sym c.loop-m.invariant)

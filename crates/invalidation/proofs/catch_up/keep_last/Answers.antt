@@ -1,16 +1,14 @@
-use Rattle.invalidation.proofs.KeepLaws.{last-beyond, last-dropped, last-kept}
-use Rattle.history.specs.Units.{no_range}
-use native.Mathlib.Omega.{arith}
 use mathlib.Core.Path.{sym, ◌∙◌}
+use native.Mathlib.Omega.{arith}
+use Rattle.history.specs.Units.{no_range}
+use Rattle.invalidation.proofs.KeepLaws.{last-beyond, last-kept}
+use Rattle.invalidation.proofs.catch_up.keep_last.Goals.{in_default-via-in-Some+else-is_named, in_default-via-in_default}
 use Rattle.invalidation.proofs.catch_up.keep_last.Goals as goal
 
-pub returns-then-k-ge-RANGE_PLACES : goal.returns-then-k-ge-RANGE_PLACES
-returns-then-k-ge-RANGE_PLACES c = let len = c.well_formed.0.1.1.1.0.1.0.1 in last-beyond _ _ _ (omega arith)
-
-pub returns-then-overlaps : goal.returns-then-overlaps
-unfolding no_range
-returns-then-overlaps c = last-dropped _ _ _ (sym c.overlaps.ensures ∙ c.if-overlaps.true)
-
-pub returns : goal.returns
-unfolding no_range
-returns c = last-kept _ _ _ (sym c.overlaps.ensures ∙ c.if-overlaps.false)
+pub returns-in_default : goal.returns-in_default
+returns-in_default c = elim c.in_default.branch [
+  | in_default-via-in-Some+else-is_named w ↦
+      let (some, at, there, within, same) = w.in-Some.ensures.lookup in
+      last-kept _ _ _ (rw (same (omega arith) no_range) at (sym w.is_named.ensures ∙ w.if-is_named.false))
+  | in_default-via-in_default w ↦ let (some, at, there, beyond, same) = w.in_default.ensures.lookup in last-beyond _ _ _ beyond
+]

@@ -4,8 +4,8 @@ use Rattle.words.proofs.SearchLaws.{all_end}
 use Rattle.blocks.proofs.SettleLaws.{start-zero, check-larger, check-largest}
 use Rattle.merging.proofs.checking.single_at.Goals as goal
 
-pub grows-requires : goal.grows-requires
-grows-requires c = record { frames_len = c.requires.frames_len; pool_le_largest_pool = c.requires.pool_le_largest_pool; f_lt_pool = c.requires.f_lt_pool; k_bound = omega arith; edge = c.requires.edge; k_value = start-zero _ _ _ c.requires.edge c.requires.f_lt_pool c.requires.f_value }
+pub grows-requires-clause-k_value : goal.grows-requires-clause-k_value
+grows-requires-clause-k_value c = start-zero _ _ _ c.requires.edge c.requires.f_lt_pool c.requires.f_value
 
 pub returns-then-grows : goal.returns-then-grows
 returns-then-grows c = check-larger _ _ _ c.requires.f_lt_pool c.requires.edge c.requires.f_value 0 (omega arith) (omega arith) (sym c.grows.ensures ∙ c.if-grows.true)

@@ -1,11 +1,12 @@
 use Rattle.runs.proofs.StepLaws.{next-on, next-short, next-long}
 use Rattle.ranges.proofs.lawful.next_place.Goals as goal
+use Rattle.ranges.proofs.lawful.next_place.Goals.{then-end-via-then-end, then-end-via-else-end+then-end-lt-SMALLEST_RANGE}
 
-pub returns-then-on : goal.returns-then-on
-returns-then-on c = next-on _ _ _ _ _ c.if-on.true
-
-pub returns-then-n-lt-SMALLEST_RANGE : goal.returns-then-n-lt-SMALLEST_RANGE
-returns-then-n-lt-SMALLEST_RANGE c = next-short _ _ _ _ _ c.if-on.false c.if-n-lt-SMALLEST_RANGE.true
+pub returns-then-end : goal.returns-then-end
+returns-then-end c = elim c.then-end.branch [
+  | then-end-via-then-end w ↦ next-on _ _ _ _ _ w.if-end.true
+  | then-end-via-else-end+then-end-lt-SMALLEST_RANGE w ↦ next-short _ _ _ _ _ w.if-end.false w.if-end-lt-SMALLEST_RANGE.true
+]
 
 pub returns : goal.returns
-returns c = next-long _ _ _ _ _ c.if-on.false c.if-n-lt-SMALLEST_RANGE.false
+returns c = next-long _ _ _ _ _ c.if-end.false c.if-end-lt-SMALLEST_RANGE.false

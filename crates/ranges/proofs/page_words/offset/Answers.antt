@@ -1,6 +1,7 @@
-use Rattle.std.proofs.Common.{arith}
-use Rattle.words.proofs.WrappingLaws.{sub-only}
+use Rattle.std.proofs.Common.{refl}
+use Rattle.words.specs.Wrapping.{wrap_sub}
 use Rattle.ranges.proofs.page_words.offset.Goals as goal
 
 pub returns : goal.returns
-returns c = sub-only 32 _ _ (omega arith) _ (omega arith) c.wrapping_sub_u32.ensures.value
+unfolding wrap_sub
+returns c = refl

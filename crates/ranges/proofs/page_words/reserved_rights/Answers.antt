@@ -6,6 +6,6 @@ pub returns-then-rights-eq-WRITE : goal.returns-then-rights-eq-WRITE
 unfolding reserved_rights
 returns-then-rights-eq-WRITE c = rw (eq-eqb _ _ c.if-rights-eq-WRITE.true)
 
-pub returns : goal.returns
+pub returns-else-rights-eq-WRITE : goal.returns-else-rights-eq-WRITE
 unfolding reserved_rights
-returns c = rw (ne_eqb _ _ c.if-rights-eq-WRITE.false)
+returns-else-rights-eq-WRITE c = rw (ne_eqb _ _ c.if-rights-eq-WRITE.false)

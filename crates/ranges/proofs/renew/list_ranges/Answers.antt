@@ -6,8 +6,8 @@ use Rattle.ranges.proofs.renew.list_ranges.Goals as goal
 pub loop-i-init : goal.loop-i-init
 loop-i-init c = renew-start _ _ (omega arith) (omega arith)
 
-pub end_run-at-requires : goal.end_run-at-requires
-end_run-at-requires c = record { part_len = omega arith; ranges_len = omega arith; v_bound = room-step _ _ _ _ _ _ _ c.loop-i.invariant _ _ (omega arith) refl c.joined-on.ensures; n_le_limit = (run-le _ _ _ _ _ _ c.loop-i.invariant.walked, omega arith) }
+pub invariant_of-end : goal.invariant_of-end
+invariant_of-end c = record { inside = run-le _ _ _ _ _ _ c.loop-i.invariant.walked; in_space = omega arith; room = room-step _ _ _ _ _ _ _ c.loop-i.invariant _ _ (omega arith) refl c.joined.ensures }
 
 pub over-along-requires : goal.over-along-requires
 over-along-requires c = let k : length c.end_run-at.new.part ≡ 1024 = omega arith in
@@ -17,27 +17,24 @@ pub goes_on-requires : goal.goes_on-requires
 goes_on-requires c = omega (arith, run-le _ _ _ _ _ _ c.loop-i.invariant.walked)
 
 pub overflow_add-n : goal.overflow_add-n
-overflow_add-n c = let st = renew-step _ _ _ _ _ _ _ c.loop-i.invariant _ _ _ _ _ _ _ _ (omega arith) refl (omega arith) c.joined-on.ensures c.range_bit.ensures c.bit_word.ensures c.goes_on.ensures c.end_run-at.ensures in
-    let r = along-room _ _ _ _ _ (omega arith) c.over-along.ensures.along in
+overflow_add-n c = let st = renew-step _ _ _ _ _ _ _ c.loop-i.invariant _ _ _ _ _ _ _ _ (omega arith) refl (omega arith) c.joined.ensures c.range_bit.ensures c.bit_word.ensures c.goes_on.ensures c.end_run-at.ensures in
+    let r = along-room _ _ _ _ _ (omega arith) c.over-along.ensures in
     omega (arith, r.0, r.1, run-le _ _ _ _ _ _ st.walked)
 
 pub overflow_add-i-in-loop-i : goal.overflow_add-i-in-loop-i
-overflow_add-i-in-loop-i c = let r = along-room _ _ _ _ _ (omega arith) c.over-along.ensures.along in omega (arith, r.0)
+overflow_add-i-in-loop-i c = let r = along-room _ _ _ _ _ (omega arith) c.over-along.ensures in omega (arith, r.0)
 
 pub overflow_add-i-in-loop-i-2 : goal.overflow_add-i-in-loop-i-2
-overflow_add-i-in-loop-i-2 c = let r = along-room _ _ _ _ _ (omega arith) c.over-along.ensures.along in omega (arith, r.0)
-
-pub loop-i-smaller : goal.loop-i-smaller
-loop-i-smaller c = omega arith
+overflow_add-i-in-loop-i-2 c = let r = along-room _ _ _ _ _ (omega arith) c.over-along.ensures in omega (arith, r.0)
 
 pub loop-i-preserved : goal.loop-i-preserved
-loop-i-preserved c = let st = renew-step _ _ _ _ _ _ _ c.loop-i.invariant _ _ _ _ _ _ _ _ (omega arith) refl (omega arith) c.joined-on.ensures c.range_bit.ensures c.bit_word.ensures c.goes_on.ensures c.end_run-at.ensures in
-    renew-along _ _ _ _ _ _ _ _ _ _ _ st c.over-along.ensures.along (omega arith) c.over-along.ensures.last_value
+loop-i-preserved c = let st = renew-step _ _ _ _ _ _ _ c.loop-i.invariant _ _ _ _ _ _ _ _ (omega arith) refl (omega arith) c.joined.ensures c.range_bit.ensures c.bit_word.ensures c.goes_on.ensures c.end_run-at.ensures in
+    renew-along _ _ _ _ _ _ _ _ _ _ _ st c.over-along.ensures (omega arith) refl
 
-pub end_run-requires : goal.end_run-requires
-end_run-requires c = let e : c.loop-i.i ≡ 1024 = omega (arith, c.loop-i.invariant.walked.inside) in
+pub invariant_of-end-2 : goal.invariant_of-end-2
+invariant_of-end-2 c = let e : c.loop-i.i ≡ 1024 = omega (arith, c.loop-i.invariant.walked.inside) in
     let r = room-end _ _ _ _ _ _ _ c.loop-i.invariant e in
-    record { part_len = omega arith; ranges_len = omega arith; v_bound = rw e at r; n_le_limit = (omega (arith, run-le _ _ _ _ _ _ c.loop-i.invariant.walked), omega arith) }
+    record { inside = omega (arith, run-le _ _ _ _ _ _ c.loop-i.invariant.walked); in_space = omega arith; room = rw e at r }
 
 pub returns : goal.returns
 returns c = let e : c.loop-i.i ≡ 1024 = omega (arith, c.loop-i.invariant.walked.inside) in

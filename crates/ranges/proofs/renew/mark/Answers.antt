@@ -1,16 +1,13 @@
-use Rattle.std.proofs.Common.{◌≡◌, refl, zero-le, arith, length-set}
-use Rattle.runs.proofs.RenewLaws.{mark-none, mark-more}
+use Rattle.std.proofs.Common.{zero-le, arith}
+use Rattle.words.proofs.WriteLaws.{change-none, change-more}
+use Rattle.ranges.proofs.PartLaws.{changed-mid}
 use Rattle.ranges.proofs.renew.mark.Goals as goal
 
-pub loop-k-init : goal.loop-k-init
-loop-k-init c = (zero-le, (refl, mark-none _ _ _))
+pub loop-w-init : goal.loop-w-init
+loop-w-init c = change-none _ _ _
 
-pub loop-k-preserved : goal.loop-k-preserved
-loop-k-preserved c = (omega arith, (simp length-set (omega arith), mark-more _ _ _ _ _ _ (omega arith) c.loop-k.invariant.1.1 c.bit_word.ensures))
-
-pub shape_of-part : goal.shape_of-part
-shape_of-part c = c.loop-k.invariant.1.0
+pub loop-w-preserved : goal.loop-w-preserved
+loop-w-preserved c = change-more _ _ 0 _ _ _ zero-le (omega arith) c.bit_word.ensures c.loop-w.invariant
 
 pub returns : goal.returns
-returns c = let e : c.loop-k.k ≡ c.args.n = omega arith in
-    rw e at c.loop-k.invariant.1.1
+returns c = changed-mid _ _ _ _ _ _ c.requires c.loop-w.invariant c.loop-w-test.false c.loop-w.auto.w-items

@@ -11,4 +11,4 @@ overflow_add-result c = let asked = c.requires in
 pub returns : goal.returns
 returns c = let asked = c.requires in
     let room = along-room _ _ _ _ _ asked.b_le_pages_in_space asked.along in
-    record { running_along = running-along _ _ _ _ _ _ (omega (arith, room.0)) asked.carries asked.along; carries_2 = rw asked.last_value (carries-along _ _ _ _ _ _ (omega (arith, room.0)) asked.carries asked.along) }
+    record { running_along = running-along _ _ _ _ _ _ (omega (arith, room.0)) asked.carries asked.along; carries_2 = carries-along _ _ _ _ _ _ (omega (arith, room.0)) asked.carries asked.along }

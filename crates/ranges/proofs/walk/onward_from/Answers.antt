@@ -13,7 +13,10 @@ pub overflow_add-v-2 : goal.overflow_add-v-2
 overflow_add-v-2 c = omega (arith, mapped-lt _ c.requires.v_value)
 
 pub counts_beside-requires : goal.counts_beside-requires
-counts_beside-requires c = let low = mapped-lt _ c.requires.v_value in record { n_in_bounds = (omega arith, omega arith); n_in_bounds_2 = (omega arith, omega arith) }
+counts_beside-requires c = let low = mapped-lt _ c.requires.v_value in
+    let most = c.min-most.ensures in
+    record { n_in_bounds = (omega arith, omega arith); n_in_bounds_2 = (omega arith, omega arith) }
 
 pub returns : goal.returns
-returns c = onward-scanned _ _ _ _ _ _ _ _ (omega arith) c.least-most.ensures.upper_bound (omega (arith, c.least-most.ensures.upper_bound_2, c.frame_in-f.ensures)) c.counts_beside.ensures
+returns c = let most = c.min-most.ensures in
+    onward-scanned _ _ _ _ _ _ _ _ (omega arith) (omega arith) (omega (arith, c.frame_in-f.ensures)) c.counts_beside.ensures

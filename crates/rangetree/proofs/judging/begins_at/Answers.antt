@@ -1,11 +1,10 @@
-use borrow.Author.Tests.{eq-eqb, ne_eqb}
 use Rattle.trees.specs.Inner.Search.{begins_at}
 use Rattle.rangetree.proofs.judging.begins_at.Goals as goal
 
-pub returns-then-r-eq0 : goal.returns-then-r-eq0
+pub returns-in-Some : goal.returns-in-Some
 unfolding begins_at
-returns-then-r-eq0 c = rw (eq-eqb _ _ c.if-r-eq0.true)
+returns-in-Some c = rw c.in-Some.is
 
-pub returns : goal.returns
+pub returns-in-None : goal.returns-in-None
 unfolding begins_at
-returns c = rw (ne_eqb _ _ c.if-r-eq0.false)
+returns-in-None c = rw c.in-None.is

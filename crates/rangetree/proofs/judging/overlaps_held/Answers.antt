@@ -1,12 +1,14 @@
-use mathlib.Core.Path.{sym}
-use Rattle.trees.proofs.CallLaws.{search-apart, overlap-by}
+use mathlib.Core.Path.{sym, ap, ◌∙◌}
+use Rattle.std.specs.Prelude.{Option}
+use Rattle.trees.specs.declared.Range.{Range}
+use Rattle.trees.specs.Inner.Search.{begins_before}
+use Rattle.trees.proofs.CallLaws.{overlap-by}
 use Rattle.rangetree.proofs.judging.overlaps_held.Goals as goal
 
-pub search-p-requires : goal.search-p-requires
-search-p-requires c = record { tree_len = c.requires.tree_len; lawful_tree = c.requires.lawful_tree.0 }
+pub returns-in-Some : goal.returns-in-Some
+unfolding begins_before
+returns-in-Some c = ap (λ (o : Option Range). begins_before o c.args.r.limit) (sym c.in-Some.is) ∙ overlap-by _ c.told-tree c.requires.0 _ c.requires.1 _ c.search.ensures
 
-pub returns-then-next-eq0 : goal.returns-then-next-eq0
-returns-then-next-eq0 c = let p = c.requires in sym (search-apart _ p.tree_len p.lawful_tree.0 _ p.lawful_tree.1 _ c.search-p.ensures (λ n. absurd (n c.if-next-eq0.true)))
-
-pub returns : goal.returns
-returns c = let p = c.requires in overlap-by _ p.tree_len p.lawful_tree.0 _ p.lawful_tree.1 _ c.search-p.ensures c.if-next-eq0.false
+pub returns-in-None : goal.returns-in-None
+unfolding begins_before
+returns-in-None c = ap (λ (o : Option Range). begins_before o c.args.r.limit) (sym c.in-None.is) ∙ overlap-by _ c.told-tree c.requires.0 _ c.requires.1 _ c.search.ensures

@@ -9,8 +9,8 @@ overflow_mul-result c = let h = c.requires in omega arith
 
 pub overflow_add-result : goal.overflow_add-result
 unfolding page_value frame_by
-overflow_add-result c = let h = c.requires in let e = c.frame_at-f.ensures in omega arith
+overflow_add-result c = let h = c.requires in let e = c.frame_at.ensures in omega arith
 
 pub returns : goal.returns
 unfolding page_value frame_by
-returns c = let e = c.frame_at-f.ensures in omega arith
+returns c = let e = c.frame_at.ensures in omega arith

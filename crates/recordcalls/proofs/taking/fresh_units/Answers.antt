@@ -6,4 +6,4 @@ use Rattle.recordcalls.proofs.StepLaws.{both-fresh}
 use Rattle.recordcalls.proofs.taking.fresh_units.Goals as goal
 
 pub returns : goal.returns
-returns c = both-fresh _ (fresh-unit (tables [] [] [] []) fresh_unit _ _ (c.fresh-t.ensures (tables [] [] [] []) fresh_unit))
+returns c = both-fresh _ (fresh-unit (tables [] [] [] []) fresh_unit _ _ (c.fresh.ensures (tables [] [] [] []) fresh_unit))

@@ -1,8 +1,24 @@
-use Rattle.recordcalls.proofs.StepLaws.{skips, asks}
+use mathlib.Core.Path.{◌∙◌}
+use Rattle.words.specs.Answers.{outcome}
+use Rattle.recordcalls.proofs.StepLaws.{skips, skips-beside, makes, makes-beside, renew, stay}
+use Rattle.recordcalls.proofs.taking.take.Goals.{then-renews, else-renews}
 use Rattle.recordcalls.proofs.taking.take.Goals as goal
 
-pub returns-in-Malformed : goal.returns-in-Malformed
-returns-in-Malformed c = skips _ _ _ _ _ c.in-Malformed.is c.malformed.ensures
+pub returns-in-Err : goal.returns-in-Err
+returns-in-Err c = record { taken = skips _ _ _ c.in-Err.is _ c.outcome.ensures _; beside = λ f. skips-beside _ _ _ c.in-Err.is _ c.outcome.ensures }
 
-pub returns-in-Asks : goal.returns-in-Asks
-returns-in-Asks c = asks _ _ _ _ _ _ _ _ c.in-Asks.is c.on_unit.ensures
+pub returns-after-renews : goal.returns-after-renews
+returns-after-renews c =
+    let d = c.make_on-answer.ensures in
+    let k = c.in-Ok.field-0.kind in
+    let a = outcome c.make_on-answer.result in
+    let q = c.make_on-answer.new.units in
+    record {
+      taken =
+          makes _ _ _ _ c.in-Ok.is _ _ _ _ c.outcome-in-Ok.ensures d.does _ _ d.other_stays
+          (elim c.if-renews.branch [
+            | then-renews w ↦ renew k a q _ _ c.renews.ensures w.if-renews.true (w.units-is ∙ w.fresh_units.ensures)
+            | else-renews w ↦ stay k a q _ _ c.renews.ensures w.if-renews.false w.units-is
+          ]);
+      beside = makes-beside _ _ _ _ c.in-Ok.is _ _ _ _ c.outcome-in-Ok.ensures d.does;
+    }

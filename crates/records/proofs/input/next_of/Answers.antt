@@ -1,17 +1,13 @@
 use mathlib.Core.Path.{sym, ◌∙◌}
-use native.Mathlib.Omega.{arith}
-use Rattle.records.proofs.InputLaws.{none_left, cut_short, record_is, all_there}
+use borrow.Author.Tests.{eqb-true, eqb-false}
+use Rattle.records.proofs.InputLaws.{none_left, cut_short, all_there}
 use Rattle.records.proofs.input.next_of.Goals as goal
 
-pub returns-then-bytes-eq0 : goal.returns-then-bytes-eq0
-returns-then-bytes-eq0 c = none_left _ c.if-bytes-eq0.true
+pub returns-then-is_empty : goal.returns-then-is_empty
+returns-then-is_empty c = none_left _ (eqb-true _ _ (sym c.is_empty.ensures ∙ c.if-is_empty.true))
 
-pub returns-then-n-eq0 : goal.returns-then-n-eq0
-returns-then-n-eq0 c = cut_short _ c.if-bytes-eq0.false (sym c.standing-n.ensures.value ∙ c.if-n-eq0.true)
+pub returns-in-Some : goal.returns-in-Some
+returns-in-Some c = all_there _ (eqb-false _ _ (sym c.is_empty.ensures ∙ c.if-is_empty.false)) _ c.in-Some.ensures.value.0 c.in-Some.ensures.value.1 _ c.read_record.ensures
 
-pub asked-requires : goal.asked-requires
-asked-requires c = let e = record_is c.args.bytes.now c.if-bytes-eq0.false _ c.standing-n.ensures.value c.if-n-eq0.false in
-    record { le_n = omega arith; n_in_bounds = c.standing-n.ensures.upper_bound }
-
-pub returns : goal.returns
-returns c = all_there _ c.if-bytes-eq0.false _ c.standing-n.ensures.value c.if-n-eq0.false _ c.asked.ensures
+pub returns-in-None : goal.returns-in-None
+returns-in-None c = cut_short _ (eqb-false _ _ (sym c.is_empty.ensures ∙ c.if-is_empty.false)) c.in-None.ensures.value

@@ -1,6 +1,7 @@
-use mathlib.Core.Path.{ap, ◌∙◌}
-use Rattle.runs.specs.Walk.{with_bits, range_words}
+use Rattle.std.proofs.Common.{rules, false, not, eqb}
+use Rattle.runs.specs.PageWords.{page_word, rights_in, frame_in}
+use Rattle.steps.proofs.StepLaws.{as-protected}
 use Rattle.steps.proofs.protecting.protect_space.Goals as goal
 
 pub returns : goal.returns
-returns c = record { value = c.rewrite-n.ensures.value; pages = c.renew.ensures.part_after ∙ ap with_bits c.rewrite-n.ensures.part_after; ranges = c.renew.ensures.ranges_after ∙ ap range_words c.rewrite-n.ensures.part_after }
+returns c = as-protected _ _ _ _ _ _ _ (c.rewrite_span.ensures (λ w. page_word false c.args.rights (frame_in w)) (λ w. not (eqb (rights_in w) c.args.rights)) (λ w r made. (search rules, search rules)))

@@ -1,6 +1,7 @@
-use mathlib.Core.Path.{ap, ◌∙◌}
-use Rattle.runs.specs.Walk.{with_bits, range_words}
+use Rattle.std.proofs.Common.{rules}
+use Rattle.runs.specs.PageWords.{mapped}
+use Rattle.steps.proofs.StepLaws.{as-unmapped}
 use Rattle.steps.proofs.unmapping.unmap_space.Goals as goal
 
 pub returns : goal.returns
-returns c = record { value = c.clear-n.ensures.value; pages = c.renew.ensures.part_after ∙ ap with_bits c.clear-n.ensures.part_after; ranges = c.renew.ensures.ranges_after ∙ ap range_words c.clear-n.ensures.part_after }
+returns c = as-unmapped _ _ _ _ _ _ (c.rewrite_span.ensures (λ w. 0) mapped (λ w r made. (search rules, search rules)))

@@ -1,7 +1,8 @@
-use mathlib.Core.Path.{ap, ◌∙◌}
-use mathlib.Core.Bool.{not}
-use Rattle.tablecheck.proofs.SpanLaws.{any-is}
+use Rattle.std.proofs.Common.{ap, ◌∙◌, arith}
+use Rattle.std.specs.List.{list_any}
+use Rattle.runs.specs.PageWords.{mapped}
+use Rattle.tablecheck.proofs.SpanLaws.{list_any-from}
 use Rattle.tablecheck.proofs.spans.any_mapped.Goals as goal
 
 pub returns : goal.returns
-returns c = ap not c.all_are.ensures ∙ any-is _ _ _
+returns c = c.any_in.ensures ∙ ap (list_any mapped) c.span.ensures ∙ list_any-from _ _ _ (omega arith)

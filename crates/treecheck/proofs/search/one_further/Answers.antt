@@ -1,7 +1,7 @@
 use Rattle.trees.specs.Inner.Search.{further}
-use borrow.Author.Rules.{rules}
+use mathlib.Core.Path.{refl}
 use Rattle.treecheck.proofs.search.one_further.Goals as goal
 
 pub returns : goal.returns
 unfolding further
-returns c = search rules
+returns c = refl

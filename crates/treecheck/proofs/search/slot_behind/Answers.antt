@@ -1,17 +1,11 @@
-use mathlib.Core.Path.{sym, ap, ◌∙◌}
-use native.Mathlib.Omega.{arith}
-use Rattle.trees.proofs.SearchLaws.{behind-step, behind-stop, behind-end, behind-start}
+use borrow.Author.Rules.{rules}
+use lib.Dec.{ltb}
 use Rattle.trees.specs.declared.Range.{Range}
+use Rattle.trees.specs.Nodes.{count_in, range_in}
+use Rattle.trees.proofs.PlaceLaws.{first-is}
 use Rattle.treecheck.proofs.search.slot_behind.Goals as goal
 
-pub loop-i-init : goal.loop-i-init
-loop-i-init c = (c.count_at-count.ensures, (omega arith, behind-start _ _ _))
-
-pub returns-then-page-r : goal.returns-then-page-r
-returns-then-page-r c = let e = ap (λ (x : Range). x.limit) c.range_at-r.ensures in let m = c.loop-i.invariant.0 in sym (c.loop-i.invariant.1.1 ∙ behind-stop _ _ _ _ (omega arith) (omega arith))
-
-pub loop-i-preserved : goal.loop-i-preserved
-loop-i-preserved c = let e = ap (λ (x : Range). x.limit) c.range_at-r.ensures in let m = c.loop-i.invariant.0 in (m, (omega arith, c.loop-i.invariant.1.1 ∙ behind-step _ _ _ _ (omega arith) (omega arith)))
-
 pub returns : goal.returns
-returns c = let m = c.loop-i.invariant.0 in sym (c.loop-i.invariant.1.1 ∙ behind-end _ _ _ _ (omega arith))
+returns c =
+    first-is (range_in c.args.tree.now c.args.n) (count_in c.args.tree.now c.args.n) c.first_place.result (λ (q : Range). ltb c.args.page.0 q.limit)
+    (record { within = c.first_place.ensures.within; before = λ j h. let e = c.first_place.ensures.before j h in search rules; there = λ h. let e = c.first_place.ensures.there h in search rules })

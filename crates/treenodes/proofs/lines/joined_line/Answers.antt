@@ -1,37 +1,16 @@
-use Rattle.trees.proofs.LineLaws.{place, ends, line_at}
 use Rattle.trees.specs.Nodes.{no_range, count_in}
-use Rattle.trees.specs.Inner.Shrinking.{JoinedRanges, JoinedChildren}
-use Prim.Native.Nat.{suc, ◌+◌}
-use mathlib.Core.List.{[], ◌∷◌}
+use Rattle.trees.proofs.CloseLaws.{behind-ext}
+use Rattle.trees.proofs.GrowLaws.{opened-ext}
 use native.Mathlib.Omega.{arith}
+use mathlib.Core.Path.{◌≡◌, refl, ◌∙◌}
 use Rattle.treenodes.proofs.lines.joined_line.Goals as goal
 
-pub joined_child-c0-requires : goal.joined_child-c0-requires
-joined_child-c0-requires c = record { tree_len = c.requires.tree_len; x_bound = c.requires.x_bound }
-
-pub joined_child-c1-requires : goal.joined_child-c1-requires
-joined_child-c1-requires c = record { tree_len = c.requires.tree_len; x_bound = c.requires.x_bound }
-
-pub joined_child-c2-requires : goal.joined_child-c2-requires
-joined_child-c2-requires c = record { tree_len = c.requires.tree_len; x_bound = c.requires.x_bound }
-
-pub joined_child-c3-requires : goal.joined_child-c3-requires
-joined_child-c3-requires c = record { tree_len = c.requires.tree_len; x_bound = c.requires.x_bound }
-
-pub joined_child-c4-requires : goal.joined_child-c4-requires
-joined_child-c4-requires c = record { tree_len = c.requires.tree_len; x_bound = c.requires.x_bound }
-
-pub joined_child-c5-requires : goal.joined_child-c5-requires
-joined_child-c5-requires c = record { tree_len = c.requires.tree_len; x_bound = c.requires.x_bound }
-
-pub joined_child-c6-requires : goal.joined_child-c6-requires
-joined_child-c6-requires c = record { tree_len = c.requires.tree_len; x_bound = c.requires.x_bound }
-
 pub returns : goal.returns
-returns c = let a = c.args in
-    let is = c.requires.x_bound.1.1.0 in
+returns c =
+    let is : c.args.cx ≡ count_in c.args.tree.now c.args.x = c.requires.x_bound.1.1.0 in
+    let few = c.requires.x_bound.1.1.1 in
     let sum = c.requires.y_bound in
     record {
-      range = λ j h. line_at (JoinedRanges a.tree.now a.x a.s a.y) (suc (count_in a.tree.now a.x + count_in a.tree.now a.y)) no_range _ (place (λ l. c.joined_range-r0.ensures (omega arith)) (place (λ l. c.joined_range-r1.ensures (omega arith)) (place (λ l. c.joined_range-r2.ensures (omega arith)) (place (λ l. c.joined_range-r3.ensures (omega arith)) (place (λ l. c.joined_range-r4.ensures (omega arith)) (place (λ l. c.joined_range-r5.ensures (omega arith)) (ends (a.s ∷ []) (omega arith)))))))) j (omega arith);
-      child = λ j h. line_at (JoinedChildren a.tree.now a.x a.y) (suc (count_in a.tree.now a.x + 1 + count_in a.tree.now a.y)) 0 _ (place (λ l. c.joined_child-c0.ensures (omega arith)) (place (λ l. c.joined_child-c1.ensures (omega arith)) (place (λ l. c.joined_child-c2.ensures (omega arith)) (place (λ l. c.joined_child-c3.ensures (omega arith)) (place (λ l. c.joined_child-c4.ensures (omega arith)) (place (λ l. c.joined_child-c5.ensures (omega arith)) (place (λ l. c.joined_child-c6.ensures (omega arith)) (ends (0 ∷ []) (omega arith))))))))) j (omega arith);
+      range = λ j h. c.joined.ensures no_range j (omega arith) ∙ behind-ext _ _ _ _ _ _ j is (λ i l. c.ranges_of-2.ensures _ i (omega arith)) (λ i l. c.opened-right.ensures _ i (omega arith) ∙ opened-ext _ _ _ _ _ 3 i (λ k l. c.ranges_of.ensures _ k (omega arith)) refl (omega arith) (omega arith));
+      child = λ j h. c.joined-2.ensures 0 j (omega arith) ∙ behind-ext _ _ _ _ _ _ j (omega arith) (λ i l. c.kids_of.ensures _ i (omega arith)) (λ i l. c.kids_of-2.ensures _ i (omega arith));
     }

@@ -1,8 +1,11 @@
 use Rattle.trees.specs.Nodes.{no_range}
-use mathlib.Core.List.{[], ◌∷◌}
-use Rattle.trees.proofs.LineLaws.{place, ends, line_at}
+use Rattle.trees.proofs.GrowLaws.{opened-ext}
 use native.Mathlib.Omega.{arith}
+use mathlib.Core.Path.{refl, ◌∙◌}
 use Rattle.treenodes.proofs.lines.opened_line.Goals as goal
 
 pub returns : goal.returns
-returns c = record { range = line_at _ 5 no_range _ (place (λ l. c.opened_range-r0.ensures) (place (λ l. c.opened_range-r1.ensures) (place (λ l. c.opened_range-r2.ensures) (place (λ l. c.opened_range-r3.ensures) (place (λ l. c.opened_range-r4.ensures) (ends (c.args.s ∷ c.args.s ∷ []) (omega arith))))))); child = line_at _ 6 0 _ (place (λ l. c.opened_child-c0.ensures) (place (λ l. c.opened_child-c1.ensures) (place (λ l. c.opened_child-c2.ensures) (place (λ l. c.opened_child-c3.ensures) (place (λ l. c.opened_child-c4.ensures) (place (λ l. c.opened_child-c5.ensures) (ends (0 ∷ 0 ∷ []) (omega arith)))))))) }
+returns c = record {
+  range = λ j h. c.opened.ensures no_range j (omega arith) ∙ opened-ext _ _ _ _ _ 3 j (λ i l. c.ranges_of.ensures _ i (omega arith)) refl (omega arith) (omega arith);
+  child = λ j h. c.opened-2.ensures 0 j (omega arith) ∙ opened-ext _ _ _ _ _ 4 j (λ i l. c.kids_of.ensures _ i (omega arith)) refl (omega arith) (omega arith);
+}

@@ -5,6 +5,6 @@ pub returns-then-leaf : goal.returns-then-leaf
 unfolding kids
 returns-then-leaf c = rw c.if-leaf.true
 
-pub returns : goal.returns
+pub returns-else-leaf : goal.returns-else-leaf
 unfolding kids
-returns c = rw c.if-leaf.false
+returns-else-leaf c = rw c.if-leaf.false

@@ -1,14 +1,15 @@
 use Rattle.trees.proofs.NodeLaws.{field-0, field-1, field-2, field-3}
+use borrow.Author.Rules.{rules}
 use Rattle.treenodes.proofs.writing.field.Goals as goal
 
-pub returns-then-q-eq0 : goal.returns-then-q-eq0
-returns-then-q-eq0 c = field-0 _ _ c.if-q-eq0.true
+pub returns-in-0 : goal.returns-in-0
+returns-in-0 c = field-0 _ _ c.in-0.is
 
-pub returns-then-q-eq1 : goal.returns-then-q-eq1
-returns-then-q-eq1 c = field-1 _ _ c.if-q-eq1.true
+pub returns-in-1 : goal.returns-in-1
+returns-in-1 c = field-1 _ _ c.in-1.is
 
-pub returns-then-q-eq2 : goal.returns-then-q-eq2
-returns-then-q-eq2 c = field-2 _ _ c.if-q-eq2.true
+pub returns-in-2 : goal.returns-in-2
+returns-in-2 c = field-2 _ _ c.in-2.is
 
-pub returns : goal.returns
-returns c = field-3 _ _ c.if-q-eq0.false c.if-q-eq1.false c.if-q-eq2.false
+pub returns-in_default : goal.returns-in_default
+returns-in_default c = field-3 _ _ (search rules) (search rules) (search rules)

@@ -1,5 +1,5 @@
 use Rattle.trees.proofs.CheckLaws.{kids-le}
-use Rattle.trees.proofs.NodeLaws.{row_count, row-flag, row-no-range, row-range, row-no-child, row-child}
+use Rattle.trees.proofs.NodeLaws.{byte-leaf, row_count, row-flag, row-no-range, row-range, row-no-child, row-child}
 use native.Mathlib.Omega.{arith}
 use mathlib.Core.Path.{◌∙◌}
 use borrow.Author.Rules.{rules}
@@ -9,7 +9,7 @@ pub returns-then-j-eq0 : goal.returns-then-j-eq0
 returns-then-j-eq0 c = row_count _ _ _ _ _ c.if-j-eq0.true
 
 pub returns-then-j-eq1 : goal.returns-then-j-eq1
-returns-then-j-eq1 c = c.leaf_word.ensures ∙ row-flag _ _ _ _ _ c.if-j-eq1.true
+returns-then-j-eq1 c = c.from.ensures ∙ byte-leaf _ ∙ row-flag _ _ _ _ _ c.if-j-eq1.true
 
 pub returns-then-k-i : goal.returns-then-k-i
 returns-then-k-i c = row-no-range _ _ _ _ _ (omega arith) (omega arith) (omega arith)

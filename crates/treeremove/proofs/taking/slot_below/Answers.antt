@@ -1,17 +1,12 @@
-use Rattle.trees.proofs.TakeLaws.{under-start, under-step, under-stop, under-end}
+use borrow.Author.Rules.{rules}
+use mathlib.Core.Bool.{not}
+use lib.Dec.{ltb}
 use Rattle.trees.specs.declared.Range.{Range}
-use native.Mathlib.Omega.{arith}
-use mathlib.Core.Path.{sym, ap, ◌∙◌}
+use Rattle.trees.specs.Nodes.{count_in, range_in}
+use Rattle.trees.proofs.PlaceLaws.{first-is}
 use Rattle.treeremove.proofs.taking.slot_below.Goals as goal
 
-pub loop-i-init : goal.loop-i-init
-loop-i-init c = (c.count_at-count.ensures, (omega arith, under-start _ _ _))
-
-pub returns-then-base-r : goal.returns-then-base-r
-returns-then-base-r c = let e = ap (λ (x : Range). x.base) c.range_at-r.ensures in let m = c.loop-i.invariant.0 in sym (c.loop-i.invariant.1.1 ∙ under-stop _ _ _ _ (omega arith) (omega arith))
-
-pub loop-i-preserved : goal.loop-i-preserved
-loop-i-preserved c = let e = ap (λ (x : Range). x.base) c.range_at-r.ensures in let m = c.loop-i.invariant.0 in (m, (omega arith, c.loop-i.invariant.1.1 ∙ under-step _ _ _ _ (omega arith) (omega arith)))
-
 pub returns : goal.returns
-returns c = let m = c.loop-i.invariant.0 in sym (c.loop-i.invariant.1.1 ∙ under-end _ _ _ _ (omega arith))
+returns c =
+    first-is (range_in c.args.tree.now c.args.n) (count_in c.args.tree.now c.args.n) c.first_place.result (λ (q : Range). not (ltb q.base c.args.base))
+    (record { within = c.first_place.ensures.within; before = λ j h. let e = c.first_place.ensures.before j h in search rules; there = λ h. let e = c.first_place.ensures.there h in search rules })

@@ -1,5 +1,9 @@
-use Rattle.words.proofs.ScanLaws.{pass_on}
+use Rattle.std.proofs.Common.{◌≡◌, slice_index, rules}
+use Rattle.words.specs.Inner.{same_in}
+use Rattle.words.proofs.ScanLaws.{same_test}
 use Rattle.words.proofs.scans.zero_to.Goals as goal
 
 pub returns : goal.returns
-returns c = record { pass_to = pass_on _ _ _ _ _ (pass_on _ _ _ _ _ c.same_chunks-far.ensures c.same_chunks-near.ensures) c.same_words.ensures.pass_to; result_value = c.same_words.ensures.result_value }
+returns c =
+    let other = c.first_other.ensures.first_other (same_in c.args.words.now 0) (λ k r lo hi differs. let e : r ≡ slice_index c.args.words.now k = search rules in rw e (same_test c.args.words.now 0 k)) in
+    record { pass_to = other.passed; result_value = other.fails }

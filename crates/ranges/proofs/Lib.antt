@@ -1,0 +1,2 @@
+pub mod OneIf
+pub mod PartLaws

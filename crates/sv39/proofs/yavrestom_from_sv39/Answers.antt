@@ -1,5 +1,0 @@
-use Rattle.words.proofs.PlaceLaws.{given-same}
-use Rattle.sv39.proofs.yavrestom_from_sv39.Goals as goal
-
-pub returns : goal.returns
-returns c = given-same _ _ c.from_sv39.ensures _ _ _ c.give.ensures
