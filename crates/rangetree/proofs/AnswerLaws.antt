@@ -3,11 +3,9 @@ use mathlib.Core.Path.{◌≡◌, sym, ap, ◌∙◌}
 use mathlib.Core.Bool.{Bool, true, false}
 use mathlib.Core.List.{List}
 use Prim.Native.Nat.{ℕ}
-use native.Mathlib.Omega.{arith}
 use lib.ListN.{length}
 use Rattle.std.specs.Prelude.{Result, Ok, Err, ⊤, Option, Some, None}
 use Rattle.words.specs.declared.answers.Refused.{Refused}
-use Rattle.words.specs.declared.answers.Refused.TheVariants.{WrongLength}
 use Rattle.words.specs.Answers.{number, outcome, judged}
 use Rattle.words.specs.Refusals.{decide}
 use Rattle.words.specs.Rows.{refusal, Promised}
@@ -19,7 +17,7 @@ use Rattle.trees.specs.Insertion.{insert_tree}
 use Rattle.trees.specs.Calls.{buffer_refusals, insert_call, remove_call, lookup_call}
 use Rattle.trees.specs.Inner.Walk.{lawful}
 use Rattle.trees.specs.Inner.Search.{has_page}
-use Rattle.trees.proofs.CallLaws.{wrong-length, is-fine, taken-range, insert-stops, insert-refused, insert-done, remove-stops, lookup-stops}
+use Rattle.trees.proofs.CallLaws.{is-fine, taken-range, insert-stops, insert-refused, insert-done, remove-stops, lookup-stops}
 
 module _ (b : List ℕ) (o : Result ⊤ Refused) (says : judged o ≡ decide (buffer_refusals b) 0) where
   pub fine-here : (u : ⊤) → o ≡ Ok u → (length b ≡ 1537) × (lawful b ≡ true)
@@ -37,16 +35,6 @@ module _ (b : List ℕ) (o : Result ⊤ Refused) (says : judged o ≡ decide (bu
 
     pub lookup-unsound : (p : ℕ) → Promised (lookup_call b p) b (outcome (Err e)) b
     lookup-unsound p = lookup-stops b (number e) stopped (number-some e) p
-
-module _ (b : List ℕ) (other : length b ≡ 1537 → ⊥) where
-  pub insert-other : (r : Range) → Promised (insert_call b r) b (outcome (Err WrongLength)) b
-  insert-other r = insert-stops b 1 (wrong-length b other) (λ z. omega arith) r
-
-  pub remove-other : (base : ℕ) → Promised (remove_call b base) b (outcome (Err WrongLength)) b
-  remove-other base = remove-stops b 1 (wrong-length b other) (λ z. omega arith) base
-
-  pub lookup-other : (p : ℕ) → Promised (lookup_call b p) b (outcome (Err WrongLength)) b
-  lookup-other p = lookup-stops b 1 (wrong-length b other) (λ z. omega arith) p
 
 module _ (b : List ℕ) (size : length b ≡ 1537) (is : lawful b ≡ true) (r : Range) (o : Result ⊤ Refused) (says : judged o ≡ decide (beside_refusals r (contents_of b)) 0) where
   pub range-refused : (e : Refused) → o ≡ Err e → Promised (insert_call b r) b (outcome (Err e)) b

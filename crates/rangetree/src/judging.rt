@@ -1,5 +1,6 @@
-// What the three calls judge: the tree, the range to insert, and what the search met.
-ghost use Rattle.std.specs.Prelude.{◌≡◌, true, false, ◌<◌};
+// What the three calls judge: the buffer, the range to insert, and what the search met.
+// Stays: a slice with a clause on its length, here and in the crates below, in place of `&[u32; 1537]`. `judge_buffer` takes a slice of any length and judges it, so to make an array of it after that would need a branch for a length that it cannot have.
+ghost use Rattle.std.specs.Prelude.{◌≡◌, true, false, ◌<◌, length};
 ghost use Rattle.words.specs.Refusals.{decide};
 ghost use Rattle.words.specs.Answers.{judged};
 ghost use Rattle.trees.specs.Ranges.{covers, page_value, overlaps, misplaced, beside_refusals};
@@ -14,16 +15,19 @@ use runs::Page;
 use treecheck::checking::{height, lawful, well_placed};
 use treecheck::search::search_node;
 use treenodes::reading::root_at;
-use trees::{Buffer, Path, Range};
+use trees::{Path, Range, TREE_WORDS};
 use words::answers::Refused;
 
 // What rights count for in a lookup's value.
 const RIGHTS: u32 = 4096;
 
-// Whether a buffer of the right length is refused.
-pub fn judge_buffer(tree: &Buffer) -> Result<(), Refused>
+// Whether the buffer is refused.
+pub fn judge_buffer(tree: &[u32]) -> Result<(), Refused>
     ensures { judged result ≡ decide (buffer_refusals tree.now) 0 }
 {
+    if tree.len() != TREE_WORDS {
+        return Err(Refused::WrongLength);
+    }
     if !lawful(tree) {
         return Err(Refused::Unsound);
     }
@@ -31,8 +35,9 @@ pub fn judge_buffer(tree: &Buffer) -> Result<(), Refused>
 }
 
 // The first range that ends behind the page, in a lawful tree.
-pub fn search(tree: &Buffer, page: Page) -> Path
-    requires { lawful tree.now ≡ true }
+pub fn search(tree: &[u32], page: Page) -> Path
+    requires tree_len { length tree.now ≡ 1537 }
+    requires lawful_tree { lawful tree.now ≡ true }
     ensures { result ≡ search_tree (height_of tree.now) (tree_at tree.now (height_of tree.now) (root_in tree.now)) page.0 }
 {
     let h = height(tree);
@@ -66,8 +71,9 @@ pub fn page_value(r: Range, page: Page) -> u32
 }
 
 // Whether a range of the tree overlaps r.
-fn overlaps_held(tree: &Buffer, r: Range) -> bool
-    requires { (lawful tree.now ≡ true) × (misplaced r ≡ false) }
+fn overlaps_held(tree: &[u32], r: Range) -> bool
+    requires tree_len { length tree.now ≡ 1537 }
+    requires lawful_tree { (lawful tree.now ≡ true) × (misplaced r ≡ false) }
     ensures { result ≡ overlaps r (contents_of tree.now) }
 {
     match search(tree, Page(r.base)).range {
@@ -77,8 +83,9 @@ fn overlaps_held(tree: &Buffer, r: Range) -> bool
 }
 
 // Whether the range is refused beside those of a lawful tree.
-pub fn judge_range(tree: &Buffer, r: Range) -> Result<(), Refused>
-    requires { lawful tree.now ≡ true }
+pub fn judge_range(tree: &[u32], r: Range) -> Result<(), Refused>
+    requires tree_len { length tree.now ≡ 1537 }
+    requires lawful_tree { lawful tree.now ≡ true }
     ensures { judged result ≡ decide (beside_refusals r (contents_of tree.now)) 0 }
 {
     if reserved_rights(r.rights) {

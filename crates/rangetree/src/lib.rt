@@ -17,42 +17,30 @@ use runs::{LAST_PAGE, Page};
 use treecheck::checking::height;
 use treeinsert::insert_root;
 use treeremove::root::remove_root;
-use trees::{Buffer, Range, TREE_WORDS};
+use trees::Range;
 use words::answers::{Answer, Refused, Values, outcome};
 use words::places::{VALUES, give};
 
-// A range into a buffer of the right length.
-fn insert_into(tree: &mut Buffer, r: Range) -> Answer
-    ensures promised { Promised (insert_call tree.old r) tree.old (outcome result) tree.new }
-    ensures others_stay { (outcome result).number ≡ 0 → OthersStay tree.old (nodes (tree_of tree.old).height (tree_of tree.old).tree) (insertion_way r.base (tree_of tree.old).height (tree_of tree.old).tree) tree.new }
-{
-    judge_buffer(tree)?;
-    judge_range(tree, r)?;
-    let h = height(tree);
-    insert_root(tree, h, r);
-    Ok(Values::from(0))
-}
-
 // A range into the tree. Refused: 1, 2, 6, 17, 8, 11.
-// Stays: the three calls make an array of the slice each by itself. One function that does it and goes on with a closure is no plainer: it would state what each call promises once more, and `lookup` is lent a tree by `&`.
 pub fn insert(tree: &mut [u32], base: u32, limit: u32, offset: u32, rights: u32) -> Answer
     ensures promised { Promised (insert_call tree.old (record { base = base; limit = limit; offset = offset; rights = rights })) tree.old (outcome result) tree.new }
     ensures others_stay { (outcome result).number ≡ 0 → OthersStay tree.old (nodes (tree_of tree.old).height (tree_of tree.old).tree) (insertion_way base (tree_of tree.old).height (tree_of tree.old).tree) tree.new }
 {
-    let Some(buffer) = tree.as_mut_array::<TREE_WORDS>() else {
-        return Err(Refused::WrongLength);
-    };
+    judge_buffer(tree)?;
     let r = Range {
         base,
         limit,
         offset,
         rights,
     };
-    insert_into(buffer, r)
+    judge_range(tree, r)?;
+    let h = height(tree);
+    insert_root(tree, h, r);
+    Ok(Values::from(0))
 }
 
-// The range of this BASE out of a buffer of the right length.
-fn remove_from(tree: &mut Buffer, base: u32) -> Answer
+// The range of this BASE out of the tree. Refused: 1, 2, 8, 12.
+pub fn remove(tree: &mut [u32], base: u32) -> Answer
     ensures promised { Promised (remove_call tree.old base) tree.old (outcome result) tree.new }
     ensures others_stay { (outcome result).number ≡ 0 → OthersStay tree.old (nodes (tree_of tree.old).height (tree_of tree.old).tree) (removal_way base (tree_of tree.old).height (tree_of tree.old).tree) tree.new }
 {
@@ -69,19 +57,8 @@ fn remove_from(tree: &mut Buffer, base: u32) -> Answer
     Ok(Values::from(0))
 }
 
-// The range of this BASE out of the tree. Refused: 1, 2, 8, 12.
-pub fn remove(tree: &mut [u32], base: u32) -> Answer
-    ensures promised { Promised (remove_call tree.old base) tree.old (outcome result) tree.new }
-    ensures others_stay { (outcome result).number ≡ 0 → OthersStay tree.old (nodes (tree_of tree.old).height (tree_of tree.old).tree) (removal_way base (tree_of tree.old).height (tree_of tree.old).tree) tree.new }
-{
-    let Some(buffer) = tree.as_mut_array::<TREE_WORDS>() else {
-        return Err(Refused::WrongLength);
-    };
-    remove_from(buffer, base)
-}
-
-// The page in a buffer of the right length.
-fn lookup_in(tree: &Buffer, page: u32) -> Answer
+// The page in the tree: 4,096 × rights + frame, then how many nodes the way to its range has. Refused: 1, 2, 8, 12.
+pub fn lookup(tree: &[u32], page: u32) -> Answer
     ensures { Promised (lookup_call tree.now page) tree.now (outcome result) tree.now }
 {
     judge_buffer(tree)?;
@@ -99,16 +76,6 @@ fn lookup_in(tree: &Buffer, page: u32) -> Answer
         first: page_value(r, Page(page)),
         second: p.nodes,
     })
-}
-
-// The page in the tree: 4,096 × rights + frame, then how many nodes the way to its range has. Refused: 1, 2, 8, 12.
-pub fn lookup(tree: &[u32], page: u32) -> Answer
-    ensures { Promised (lookup_call tree.now page) tree.now (outcome result) tree.now }
-{
-    let Some(buffer) = tree.as_array::<TREE_WORDS>() else {
-        return Err(Refused::WrongLength);
-    };
-    lookup_in(buffer, page)
 }
 
 // `insert` for C and Rust: the number is returned, the values go into a lent place. Refused: 1, 2, 6, 17, 8, 11.

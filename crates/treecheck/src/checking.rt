@@ -1,5 +1,5 @@
 // Whether a buffer is a lawful tree, whatever its words are: a walk in order, of a node and along its ranges, that call each other, one level lower each time.
-ghost use Rattle.std.specs.Prelude.{◌≡◌, ◌+◌, ◌≤◌, not};
+ghost use Rattle.std.specs.Prelude.{◌≡◌, ◌+◌, ◌≤◌, length, not};
 ghost use Rattle.trees.specs.Ranges.{misplaced, proper};
 ghost use Rattle.trees.specs.Trees.{height_from, height_of};
 ghost use Rattle.trees.specs.Inner.Walk.{zeros_in, node_fits, met as has_met, passed as has_passed, enters as may_enter, visit_from, visit as visited, free_fits, lawful as is_lawful};
@@ -8,7 +8,7 @@ ghost use Rattle.words.specs.Searches.{all_from};
 use ranges::page_words::{allowed_rights, frames_fit};
 use runs::{PAGES, SMALLEST_RANGE};
 use treenodes::reading::{child_at, count_at, kid_count, leaf_at, range_at, root_at};
-use trees::{Buffer, Range, Walk};
+use trees::{Range, Walk};
 use words::scans::all_zero;
 
 // Whether the range has 8 pages or more, ends by page 1,023 and has no frame above 4,095.
@@ -33,8 +33,9 @@ fn proper_range(r: Range) -> bool
 }
 
 // Whether words k up to m of node n are zero.
-fn zeros_at(tree: &Buffer, n: usize, k: usize, m: usize) -> bool
-    requires { (n ≤ 63) × ((k ≤ m) × (m ≤ 24)) }
+fn zeros_at(tree: &[u32], n: usize, k: usize, m: usize) -> bool
+    requires tree_len { length tree.now ≡ 1537 }
+    requires n_bound { (n ≤ 63) × ((k ≤ m) × (m ≤ 24)) }
     ensures { result ≡ zeros_in tree.now n k m }
 {
     let at = 1 + n * 24;
@@ -42,8 +43,9 @@ fn zeros_at(tree: &Buffer, n: usize, k: usize, m: usize) -> bool
 }
 
 // Whether the words of node n fit.
-fn node_fits(tree: &Buffer, leaf: bool, least: usize, n: usize) -> bool
-    requires { n ≤ 63 }
+fn node_fits(tree: &[u32], leaf: bool, least: usize, n: usize) -> bool
+    requires tree_len { length tree.now ≡ 1537 }
+    requires n_bound { n ≤ 63 }
     ensures { result ≡ node_fits tree.now leaf least n }
 {
     let count = count_at(tree, n);
@@ -60,7 +62,8 @@ fn node_fits(tree: &Buffer, leaf: bool, least: usize, n: usize) -> bool
 }
 
 // Whether node n may stand here.
-fn enters(tree: &Buffer, leaf: bool, least: usize, n: usize, walk: Walk) -> bool
+fn enters(tree: &[u32], leaf: bool, least: usize, n: usize, walk: Walk) -> bool
+    requires { length tree.now ≡ 1537 }
     ensures { result ≡ may_enter tree.now leaf least n walk }
 {
     if 63 < n {
@@ -93,7 +96,8 @@ fn passed(mut walk: Walk, r: Range) -> Option<Walk>
 
 // The subtree of `level` levels at node n; none if it is unlawful.
 #[cycle(visit_visit_from)]
-fn visit(tree: &Buffer, level: u32, least: usize, n: usize, walk: Walk) -> Option<Walk>
+fn visit(tree: &[u32], level: u32, least: usize, n: usize, walk: Walk) -> Option<Walk>
+    requires { length tree.now ≡ 1537 }
     ensures { result ≡ visited tree.now level least n walk }
 {
     if level == 0 {
@@ -108,8 +112,9 @@ fn visit(tree: &Buffer, level: u32, least: usize, n: usize, walk: Walk) -> Optio
 
 // Child i of node n, and its k ranges from the i-th on with a child each.
 #[cycle(visit_visit_from)]
-fn visit_from(tree: &Buffer, level: u32, n: usize, k: usize, i: usize, walk: Walk) -> Option<Walk>
-    requires { (n ≤ 63) × (i + k ≤ 4) }
+fn visit_from(tree: &[u32], level: u32, n: usize, k: usize, i: usize, walk: Walk) -> Option<Walk>
+    requires tree_len { length tree.now ≡ 1537 }
+    requires n_bound { (n ≤ 63) × (i + k ≤ 4) }
     ensures { result ≡ visit_from (visited tree.now level 2) tree.now n k i walk }
 {
     let child = child_at(tree, n, i);
@@ -122,7 +127,8 @@ fn visit_from(tree: &Buffer, level: u32, n: usize, k: usize, i: usize, walk: Wal
 }
 
 // How many levels the way by the first children has, at most k.
-fn height_from(tree: &Buffer, k: u32, n: usize) -> u32
+fn height_from(tree: &[u32], k: u32, n: usize) -> u32
+    requires { length tree.now ≡ 1537 }
     ensures { result ≡ height_from tree.now k n }
 {
     if k == 0 {
@@ -139,7 +145,8 @@ fn height_from(tree: &Buffer, k: u32, n: usize) -> u32
     height_from(tree, k - 1, c) + 1
 }
 
-pub fn height(tree: &Buffer) -> u32
+pub fn height(tree: &[u32]) -> u32
+    requires { length tree.now ≡ 1537 }
     ensures { result ≡ height_of tree.now }
 {
     let root = root_at(tree);
@@ -150,15 +157,17 @@ pub fn height(tree: &Buffer) -> u32
 }
 
 // Whether node n was met or is zero.
-fn free_at(tree: &Buffer, walk: Walk, n: usize) -> bool
-    requires { n ≤ 63 }
+fn free_at(tree: &[u32], walk: Walk, n: usize) -> bool
+    requires tree_len { length tree.now ≡ 1537 }
+    requires n_bound { n ≤ 63 }
     ensures { result ≡ free_fits tree.now walk.seen n }
 {
     walk.seen[n] || zeros_at(tree, n, 0, 24)
 }
 
 // Whether every node that was not met is zero.
-fn free_fit(tree: &Buffer, walk: Walk) -> bool
+fn free_fit(tree: &[u32], walk: Walk) -> bool
+    requires { length tree.now ≡ 1537 }
     ensures { result ≡ all_from 64 0 (free_fits tree.now walk.seen) }
 {
     for n in 0..64 {
@@ -169,7 +178,8 @@ fn free_fit(tree: &Buffer, walk: Walk) -> bool
     true
 }
 
-pub fn lawful(tree: &Buffer) -> bool
+pub fn lawful(tree: &[u32]) -> bool
+    requires { length tree.now ≡ 1537 }
     ensures { result ≡ is_lawful tree.now }
 {
     let start = Walk {

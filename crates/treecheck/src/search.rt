@@ -1,5 +1,5 @@
 // The search of all three calls: in a node, and a descent to a child, which call each other, one level lower each time.
-ghost use Rattle.std.specs.Prelude.{◌≡◌, suc, ◌≤◌, ◌<◌};
+ghost use Rattle.std.specs.Prelude.{◌≡◌, suc, ◌≤◌, ◌<◌, length};
 ghost use Rattle.trees.specs.Nodes.{count_in, range_in, child_in};
 ghost use Rattle.trees.specs.Trees.{tree_at};
 ghost use Rattle.trees.specs.Inner.Search.{further, or_else, slot_behind, search_tree};
@@ -7,11 +7,12 @@ ghost use Rattle.trees.specs.Inner.Standing.{Stands};
 
 use runs::Page;
 use treenodes::reading::{child_at, count_at, first_place, range_at};
-use trees::{Buffer, Path, Range};
+use trees::{Path, Range};
 
 // The place of the first range of node n that ends behind the page, or the place behind its ranges.
-fn slot_behind(tree: &Buffer, n: usize, page: Page) -> usize
-    requires { (n ≤ 63) × (count_in tree.now n ≤ 4) }
+fn slot_behind(tree: &[u32], n: usize, page: Page) -> usize
+    requires tree_len { length tree.now ≡ 1537 }
+    requires n_bound { (n ≤ 63) × (count_in tree.now n ≤ 4) }
     ensures { result ≡ slot_behind (range_in tree.now n) page.0 (count_in tree.now n) 0 }
 {
     first_place(tree, n, |r| page.0 < r.limit)
@@ -40,8 +41,9 @@ fn or_else(r: Range, p: Path) -> Path
 
 // The first range that ends behind the page, in the subtree of `level` levels at node n.
 #[cycle(descend_search_node)]
-pub fn search_node(tree: &Buffer, level: u32, n: usize, page: Page) -> Path
-    requires { Stands tree.now level 0 n }
+pub fn search_node(tree: &[u32], level: u32, n: usize, page: Page) -> Path
+    requires tree_len { length tree.now ≡ 1537 }
+    requires stands { Stands tree.now level 0 n }
     ensures { result ≡ search_tree level (tree_at tree.now level n) page.0 }
 {
     if level == 0 {
@@ -67,8 +69,9 @@ pub fn search_node(tree: &Buffer, level: u32, n: usize, page: Page) -> Path
 
 // The same in the subtree of child i of node n.
 #[cycle(descend_search_node)]
-fn descend(tree: &Buffer, level: u32, n: usize, i: usize, page: Page) -> Path
-    requires { (Stands tree.now (suc level) 0 n) × (i ≤ count_in tree.now n) }
+fn descend(tree: &[u32], level: u32, n: usize, i: usize, page: Page) -> Path
+    requires tree_len { length tree.now ≡ 1537 }
+    requires stands { (Stands tree.now (suc level) 0 n) × (i ≤ count_in tree.now n) }
     ensures { result ≡ search_tree level (tree_at tree.now level (child_in tree.now n i)) page.0 }
 {
     let c = child_at(tree, n, i);

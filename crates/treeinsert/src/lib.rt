@@ -1,7 +1,7 @@
 // Insertion into a range tree: down to a leaf, and back, parting full nodes. A node and the descent below it call each other, one level lower each time.
 #![tactic(auto)]
 
-ghost use Rattle.std.specs.Prelude.{true, false, ◌≡◌, ◌≤◌};
+ghost use Rattle.std.specs.Prelude.{true, false, ◌≡◌, ◌≤◌, length};
 ghost use Rattle.trees.specs.Ranges.{proper, overlaps};
 ghost use Rattle.trees.specs.Nodes.{count_in, range_in, child_in};
 ghost use Rattle.trees.specs.Trees.{nodes, height_of, tree_of, contents_of, OthersStay};
@@ -14,18 +14,20 @@ ghost use Rattle.trees.specs.Inner.Holding.{Holding};
 use treenodes::lines::opened_line;
 use treenodes::reading::{child_at, count_at, first_place, root_at};
 use treenodes::writing::{put, unused};
-use trees::{Buffer, Line, Range, Up};
+use trees::{Line, Range, Up};
 
 // How many ranges of node n have no higher BASE.
-fn insert_slot(tree: &Buffer, n: usize, base: u32) -> usize
-    requires { (n ≤ 63) × (count_in tree.now n ≤ 4) }
+fn insert_slot(tree: &[u32], n: usize, base: u32) -> usize
+    requires tree_len { length tree.now ≡ 1537 }
+    requires n_bound { (n ≤ 63) × (count_in tree.now n ≤ 4) }
     ensures { result ≡ slot_by (range_in tree.now n) base (count_in tree.now n) 0 }
 {
     first_place(tree, n, |r| base < r.base)
 }
 
 // What goes up, at place i of node n, which is parted if it has four ranges.
-fn widen(tree: &mut Buffer, leaf: bool, n: usize, i: usize, up: Up) -> Option<Up>
+fn widen(tree: &mut [u32], leaf: bool, n: usize, i: usize, up: Up) -> Option<Up>
+    requires tree_len { length tree.old ≡ 1537 }
     requires n_bound { (n ≤ 63) × ((i ≤ 4) × ((count_in tree.old n ≤ 4) × (1 ≤ count_in tree.old n))) }
     requires bound { count_in tree.old n ≡ 4 → 1 ≤ free_count tree.old }
     ensures { Widened tree.old leaf n i up.range up.node result tree.new }
@@ -47,8 +49,9 @@ fn widen(tree: &mut Buffer, leaf: bool, n: usize, i: usize, up: Up) -> Option<Up
 
 // The range into the subtree of `level` levels at node n.
 #[cycle(insert_below_insert_node)]
-fn insert_node(tree: &mut Buffer, level: u32, n: usize, r: Range) -> Option<Up>
-    requires { Ready tree.old level n r }
+fn insert_node(tree: &mut [u32], level: u32, n: usize, r: Range) -> Option<Up>
+    requires tree_len { length tree.old ≡ 1537 }
+    requires ready { Ready tree.old level n r }
     ensures { Grew tree.old level n r result tree.new }
 {
     if level == 0 {
@@ -61,7 +64,8 @@ fn insert_node(tree: &mut Buffer, level: u32, n: usize, r: Range) -> Option<Up>
 
 // The range into the subtree of `level` levels at child i of node n.
 #[cycle(insert_below_insert_node)]
-fn insert_below(tree: &mut Buffer, level: u32, n: usize, i: usize, r: Range) -> Option<Up>
+fn insert_below(tree: &mut [u32], level: u32, n: usize, i: usize, r: Range) -> Option<Up>
+    requires tree_len { length tree.old ≡ 1537 }
     requires n_bound { (n ≤ 63) × (i ≤ 4) }
     requires ready { Ready tree.old level (child_in tree.old n i) r }
     ensures { Grew tree.old level (child_in tree.old n i) r result tree.new }
@@ -71,8 +75,9 @@ fn insert_below(tree: &mut Buffer, level: u32, n: usize, i: usize, r: Range) -> 
 }
 
 // A new root over node `first` and what goes up.
-fn new_root(tree: &mut Buffer, leaf: bool, first: u32, up: Up)
-    requires { 1 ≤ free_count tree.old }
+fn new_root(tree: &mut [u32], leaf: bool, first: u32, up: Up)
+    requires tree_len { length tree.old ≡ 1537 }
+    requires bound { 1 ≤ free_count tree.old }
     ensures { NewRoot tree.old leaf up.range first up.node tree.new }
 {
     let m = unused(tree);
@@ -85,7 +90,8 @@ fn new_root(tree: &mut Buffer, leaf: bool, first: u32, up: Up)
 }
 
 // The range into the tree, which is h levels high.
-pub fn insert_root(tree: &mut Buffer, h: u32, r: Range)
+pub fn insert_root(tree: &mut [u32], h: u32, r: Range)
+    requires tree_len { length tree.old ≡ 1537 }
     requires lawful_tree { lawful tree.old ≡ true }
     requires h_value { h ≡ height_of tree.old }
     requires proper_range { proper r ≡ true }

@@ -1,5 +1,5 @@
 // Rows of ranges and children, read before nodes are written.
-ghost use Rattle.std.specs.Prelude.{◌≡◌, ◌+◌, ◌≤◌, ◌<◌, ℕ, get_or};
+ghost use Rattle.std.specs.Prelude.{◌≡◌, ◌+◌, ◌≤◌, ◌<◌, ℕ, length, get_or};
 ghost use Rattle.trees.specs.Nodes.{count_in, range_in, child_in};
 ghost use Rattle.trees.specs.Inner.Places.{opened, placed, closed, behind};
 ghost use Rattle.trees.specs.Inner.Standing.{OpenedLine};
@@ -7,19 +7,21 @@ ghost use Rattle.trees.specs.Inner.Shrinking.{JoinedLine, ClosedLine, PlacedLine
 
 use crate::reading::range_at;
 use std::array;
-use trees::{Buffer, Line, Range};
+use trees::{Line, Range};
 
 // The ranges of node n.
-fn ranges_of(tree: &Buffer, n: usize) -> [Range; 4]
-    requires { n ≤ 63 }
+fn ranges_of(tree: &[u32], n: usize) -> [Range; 4]
+    requires tree_len { length tree.now ≡ 1537 }
+    requires n_bound { n ≤ 63 }
     ensures { (d : Range) (j : ℕ) → j < 4 → get_or result j d ≡ range_in tree.now n j }
 {
     array::from_fn(|i| range_at(tree, n, i))
 }
 
 // The children of node n.
-fn kids_of(tree: &Buffer, n: usize) -> [u32; 5]
-    requires { n ≤ 63 }
+fn kids_of(tree: &[u32], n: usize) -> [u32; 5]
+    requires tree_len { length tree.now ≡ 1537 }
+    requires n_bound { n ≤ 63 }
     ensures { (d j : ℕ) → j < 5 → get_or result j d ≡ child_in tree.now n j }
 {
     let at = 1 + n * 24 + 18;
@@ -53,8 +55,9 @@ fn opened<T: Copy, const N: usize>(row: &[T], i: usize, x: T) -> [T; N]
 }
 
 // The ranges and children of node n with s and x at place i.
-pub fn opened_line(tree: &Buffer, n: usize, i: usize, s: Range, x: u32) -> Line
-    requires { (n ≤ 63) × (i ≤ 4) }
+pub fn opened_line(tree: &[u32], n: usize, i: usize, s: Range, x: u32) -> Line
+    requires tree_len { length tree.now ≡ 1537 }
+    requires n_bound { (n ≤ 63) × (i ≤ 4) }
     ensures { OpenedLine tree.now n i s x result.ranges result.kids }
 {
     Line {
@@ -81,7 +84,8 @@ fn joined<T: Copy, const N: usize>(x: &[T], c: usize, y: &[T], other: T) -> [T; 
 }
 
 // The ranges of nodes x and y with s between them, and the children of both; cx is the count of x.
-pub fn joined_line(tree: &Buffer, x: usize, cx: usize, s: Range, y: usize) -> Line
+pub fn joined_line(tree: &[u32], x: usize, cx: usize, s: Range, y: usize) -> Line
+    requires tree_len { length tree.now ≡ 1537 }
     requires x_bound { (x ≤ 63) × ((y ≤ 63) × ((cx ≡ count_in tree.now x) × ((cx ≤ 4) × (count_in tree.now y ≤ 4)))) }
     requires y_bound { cx + count_in tree.now y ≤ 5 }
     ensures { JoinedLine tree.now x s y result.ranges result.kids }
@@ -113,8 +117,9 @@ fn closed<T: Copy, const N: usize>(row: &[T], i: usize, other: T) -> [T; N]
 }
 
 // The row of node n without its range at place i and the child behind it.
-pub fn closed_line(tree: &Buffer, n: usize, i: usize) -> Line
-    requires { (n ≤ 63) × (i ≤ 4) }
+pub fn closed_line(tree: &[u32], n: usize, i: usize) -> Line
+    requires tree_len { length tree.now ≡ 1537 }
+    requires n_bound { (n ≤ 63) × (i ≤ 4) }
     ensures { ClosedLine tree.now n i result.ranges result.kids }
 {
     Line {
@@ -124,8 +129,9 @@ pub fn closed_line(tree: &Buffer, n: usize, i: usize) -> Line
 }
 
 // The row of node n with range s at place i.
-pub fn placed_line(tree: &Buffer, n: usize, i: usize, s: Range) -> Line
-    requires { n ≤ 63 }
+pub fn placed_line(tree: &[u32], n: usize, i: usize, s: Range) -> Line
+    requires tree_len { length tree.now ≡ 1537 }
+    requires n_bound { n ≤ 63 }
     ensures { PlacedLine tree.now n i s result.ranges result.kids }
 {
     let ranges = ranges_of(tree, n);

@@ -1,11 +1,11 @@
 // Writing a node.
-ghost use Rattle.std.specs.Prelude.{◌≡◌, ◌+◌, ◌≤◌, get_or, ℕ, ◌<◌};
+ghost use Rattle.std.specs.Prelude.{◌≡◌, ◌+◌, ◌≤◌, length, get_or, ℕ, ◌<◌};
 ghost use Rattle.trees.specs.Nodes.{count_in, field_of, no_range};
 ghost use Rattle.trees.specs.Inner.Places.{row_word};
 ghost use Rattle.trees.specs.Inner.Standing.{Put, free_count, free_number};
 
 use crate::reading::{count_at, kid_count};
-use trees::{Buffer, Line, Range};
+use trees::{Line, Range};
 use words::writes::fill;
 
 // Word q of a range.
@@ -47,8 +47,9 @@ fn word_of(line: Line, leaf: bool, from: usize, k: usize, j: usize) -> u32
 }
 
 // Node n is to have k ranges of the line, from place `from` on.
-pub fn put(tree: &mut Buffer, n: usize, leaf: bool, line: Line, from: usize, k: usize)
-    requires { (n ≤ 63) × ((k ≤ 4) × (from + k ≤ 7)) }
+pub fn put(tree: &mut [u32], n: usize, leaf: bool, line: Line, from: usize, k: usize)
+    requires tree_len { length tree.old ≡ 1537 }
+    requires n_bound { (n ≤ 63) × ((k ≤ 4) × (from + k ≤ 7)) }
     ensures { Put tree.old n (row_word leaf k (λ i. get_or line.ranges (from + i) no_range) (λ i. get_or line.kids (from + i) 0)) tree.new }
 {
     for j in 0..24 {
@@ -58,8 +59,9 @@ pub fn put(tree: &mut Buffer, n: usize, leaf: bool, line: Line, from: usize, k: 
 
 // The lowest unused node; there is one, so the 0 is never given.
 // Stays: a number, and no Option: `unused` (docs/PROMISES.md) promises one, and it can't fail.
-pub fn unused(tree: &Buffer) -> usize
-    requires { 1 ≤ free_count tree.now }
+pub fn unused(tree: &[u32]) -> usize
+    requires tree_len { length tree.now ≡ 1537 }
+    requires bound { 1 ≤ free_count tree.now }
     ensures { (result ≤ 63) × ((count_in tree.now result ≡ 0) × (((m : ℕ) → m < result → count_in tree.now m ≡ 0 → ⊥) × (result ≡ free_number tree.now 0))) }
 {
     for n in 0..64 {
@@ -71,8 +73,9 @@ pub fn unused(tree: &Buffer) -> usize
 }
 
 // Node n is zero.
-pub fn clear(tree: &mut Buffer, n: usize)
-    requires { n ≤ 63 }
+pub fn clear(tree: &mut [u32], n: usize)
+    requires tree_len { length tree.old ≡ 1537 }
+    requires n_bound { n ≤ 63 }
     ensures { Put tree.old n (λ j. 0) tree.new }
 {
     let at = 1 + n * 24;

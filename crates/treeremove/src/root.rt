@@ -1,5 +1,5 @@
 // A range taken out of the whole tree.
-ghost use Rattle.std.specs.Prelude.{◌≡◌, true, ◌≤◌};
+ghost use Rattle.std.specs.Prelude.{◌≡◌, true, ◌≤◌, length};
 ghost use Rattle.trees.specs.Nodes.{root_in};
 ghost use Rattle.trees.specs.Trees.{nodes, tree_at, height_of, tree_of, OthersStay};
 ghost use Rattle.trees.specs.Removal.{remove_tree, removal_way};
@@ -10,11 +10,12 @@ ghost use Rattle.trees.specs.Inner.Holding.{Holding};
 use crate::taking::take_node;
 use treenodes::reading::{child_at, count_at, root_at};
 use treenodes::writing::clear;
-use trees::{Buffer, NO_ROOT};
+use trees::NO_ROOT;
 
 // Root n goes, and v is the root's number.
-fn drop_root(tree: &mut Buffer, n: usize, v: u32)
-    requires { n ≤ 63 }
+fn drop_root(tree: &mut [u32], n: usize, v: u32)
+    requires tree_len { length tree.old ≡ 1537 }
+    requires n_bound { n ≤ 63 }
     ensures { RootGone tree.old n v tree.new }
 {
     clear(tree, n);
@@ -22,7 +23,8 @@ fn drop_root(tree: &mut Buffer, n: usize, v: u32)
 }
 
 // Out of the tree, of h levels: the range of this BASE, or the last one where all are lower; a root without ranges goes.
-pub fn remove_root(tree: &mut Buffer, h: u32, base: u32)
+pub fn remove_root(tree: &mut [u32], h: u32, base: u32)
+    requires tree_len { length tree.old ≡ 1537 }
     requires lawful_tree { lawful tree.old ≡ true }
     requires h_value { (h ≡ height_of tree.old) × (1 ≤ h) }
     ensures holding { Holding tree.new (remove_tree base (tree_of tree.old)) }

@@ -4,9 +4,6 @@
 // How many words a tree's buffer has: the number of its root, then 64 nodes of 24 words. Code that reads or writes them has these numbers as they stand in the layout.
 pub const TREE_WORDS: usize = 1537;
 
-// The words of a tree's buffer.
-pub type Buffer = [u32; TREE_WORDS];
-
 // The root's number where the tree is empty.
 // Stays: the layout of the buffer has this number for none (`root_of`, which kernels read), so an Option would be made of it and back at each call.
 pub const NO_ROOT: u32 = 64;

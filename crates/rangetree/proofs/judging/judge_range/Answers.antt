@@ -13,7 +13,7 @@ pub returns-then-not-well_placed : goal.returns-then-not-well_placed
 returns-then-not-well_placed c = range-misplaced _ _ (sym c.allowed_rights.ensures ∙ c.if-not-allowed_rights.false) (not-false _ (sym c.well_placed.ensures ∙ c.if-not-well_placed.true))
 
 pub overlaps_held-requires : goal.overlaps_held-requires
-overlaps_held-requires c = (c.requires, not-true _ (sym c.well_placed.ensures ∙ c.if-not-well_placed.false))
+overlaps_held-requires c = record { tree_len = c.requires.tree_len; lawful_tree = (c.requires.lawful_tree, not-true _ (sym c.well_placed.ensures ∙ c.if-not-well_placed.false)) }
 
 pub returns-then-overlaps_held : goal.returns-then-overlaps_held
 returns-then-overlaps_held c = range-overlaps _ _ (sym c.allowed_rights.ensures ∙ c.if-not-allowed_rights.false) (not-true _ (sym c.well_placed.ensures ∙ c.if-not-well_placed.false)) (sym c.overlaps_held.ensures ∙ c.if-overlaps_held.true)

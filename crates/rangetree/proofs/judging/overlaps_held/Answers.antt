@@ -7,8 +7,8 @@ use Rattle.rangetree.proofs.judging.overlaps_held.Goals as goal
 
 pub returns-in-Some : goal.returns-in-Some
 unfolding begins_before
-returns-in-Some c = ap (λ (o : Option Range). begins_before o c.args.r.limit) (sym c.in-Some.is) ∙ overlap-by _ c.told-tree c.requires.0 _ c.requires.1 _ c.search.ensures
+returns-in-Some c = ap (λ (o : Option Range). begins_before o c.args.r.limit) (sym c.in-Some.is) ∙ overlap-by _ c.requires.tree_len c.requires.lawful_tree.0 _ c.requires.lawful_tree.1 _ c.search.ensures
 
 pub returns-in-None : goal.returns-in-None
 unfolding begins_before
-returns-in-None c = ap (λ (o : Option Range). begins_before o c.args.r.limit) (sym c.in-None.is) ∙ overlap-by _ c.told-tree c.requires.0 _ c.requires.1 _ c.search.ensures
+returns-in-None c = ap (λ (o : Option Range). begins_before o c.args.r.limit) (sym c.in-None.is) ∙ overlap-by _ c.requires.tree_len c.requires.lawful_tree.0 _ c.requires.lawful_tree.1 _ c.search.ensures

@@ -11,8 +11,8 @@ visit-returns-then-level-eq0 t c = visit-bottom _ _ _ _ _ c.if-level-eq0.true
 pub visit-returns-then-not-enters : goal.visit-returns-then-not-enters
 visit-returns-then-not-enters t c = visit-not _ _ _ _ _ (omega arith) (sym c.enters.ensures ∙ c.if-not-enters.true)
 
-pub visit-count_at-count-requires : goal.visit-count_at-count-requires
-visit-count_at-count-requires t c = (is-entered _ _ _ _ _ (sym c.enters.ensures ∙ c.if-not-enters.false)).number
+pub visit-count_at-count-requires-clause-n_bound : goal.visit-count_at-count-requires-clause-n_bound
+visit-count_at-count-requires-clause-n_bound t c = (is-entered _ _ _ _ _ (sym c.enters.ensures ∙ c.if-not-enters.false)).number
 
 pub visit-met-requires : goal.visit-met-requires
 visit-met-requires t c = (is-entered _ _ _ _ _ (sym c.enters.ensures ∙ c.if-not-enters.false)).number
@@ -23,7 +23,7 @@ visit-visit_from-requires t c =
     let n = q.number in
     let f = q.fits.few in
     let e = c.count_at-count.ensures in
-    (omega arith, (n, omega arith))
+    (omega arith, (c.requires, (n, omega arith)))
 
 pub visit-returns : goal.visit-returns
 visit-returns t c =

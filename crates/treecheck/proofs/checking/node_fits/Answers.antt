@@ -21,8 +21,8 @@ returns-then-leaf_at-from c = fits_not _ _ _ _ (λ q. c.if-leaf_at-from.true (c.
 pub overflow_add-kid_count : goal.overflow_add-kid_count
 overflow_add-kid_count c = let k = kids-le c.args.leaf c.count_at-count.result in let e = c.kid_count.ensures in omega arith
 
-pub zeros_at-requires-then-zeros_at : goal.zeros_at-requires-then-zeros_at
-zeros_at-requires-then-zeros_at c = let k = kids-le c.args.leaf c.count_at-count.result in let e = c.kid_count.ensures in search rules
+pub zeros_at-requires-then-zeros_at-clause-n_bound : goal.zeros_at-requires-then-zeros_at-clause-n_bound
+zeros_at-requires-then-zeros_at-clause-n_bound c = let k = kids-le c.args.leaf c.count_at-count.result in let e = c.kid_count.ensures in search rules
 
 pub returns-then-zeros_at : goal.returns-then-zeros_at
 returns-then-zeros_at c = let z : zeros_in c.args.tree.now c.args.n (18 + c.kid_count.result) 24 ≡ zeros_in c.args.tree.now c.args.n (18 + kids c.args.leaf (count_in c.args.tree.now c.args.n)) 24 = ap (λ (x : ℕ). zeros_in c.args.tree.now c.args.n (18 + x) 24) (c.kid_count.ensures ∙ ap (kids c.args.leaf) c.count_at-count.ensures) in

@@ -13,7 +13,7 @@ pub search_node-descend-requires : goal.search_node-descend-requires
 search_node-descend-requires t c =
     let l = behind-le (range_in c.args.tree.now c.args.n) c.args.page.0 (count_in c.args.tree.now c.args.n) 0 in
     let e = c.slot_behind-i.ensures in
-    (omega arith, (stands-level c.args.tree.now c.args.level c.args.n (omega arith) c.requires, omega arith))
+    (omega arith, (c.requires.tree_len, (stands-level c.args.tree.now c.args.level c.args.n (omega arith) c.requires.stands, omega arith)))
 
 pub search_node-one_further-requires : goal.search_node-one_further-requires
 search_node-one_further-requires t c = let l = search-nodes _ _ _ _ c.descend.ensures in omega arith

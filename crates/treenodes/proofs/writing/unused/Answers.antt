@@ -8,4 +8,4 @@ returns-then-count_at-eq0 c = let z = sym c.count_at.ensures ∙ c.if-count_at-e
     (omega arith, (z, (c.loop-n.invariant, first-free _ _ (omega arith) z c.loop-n.invariant)))
 
 pub returns : goal.returns
-returns c = let e = none_free c.args.tree.now (λ m h. c.loop-n.invariant m (omega arith)) in let r = c.requires in absurd (omega arith)
+returns c = let e = none_free c.args.tree.now (λ m h. c.loop-n.invariant m (omega arith)) in let r = c.requires.bound in absurd (omega arith)

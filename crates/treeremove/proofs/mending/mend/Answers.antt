@@ -4,10 +4,10 @@ use borrow.Author.Rules.{rules}
 use Rattle.treeremove.proofs.mending.mend.Goals as goal
 
 pub count_at-cx-requires : goal.count_at-cx-requires
-count_at-cx-requires c = (mend-kids _ _ _ _ c.requires.le_level.0 c.requires.uneven _ _ c.child_at-x.ensures c.child_at-y.ensures).0
+count_at-cx-requires c = record { tree_len = c.requires.tree_len; n_bound = (mend-kids _ _ _ _ c.requires.le_level.0 c.requires.uneven _ _ c.child_at-x.ensures c.child_at-y.ensures).0 }
 
 pub count_at-cy-requires : goal.count_at-cy-requires
-count_at-cy-requires c = (mend-kids _ _ _ _ c.requires.le_level.0 c.requires.uneven _ _ c.child_at-x.ensures c.child_at-y.ensures).1.0
+count_at-cy-requires c = record { tree_len = c.requires.tree_len; n_bound = (mend-kids _ _ _ _ c.requires.le_level.0 c.requires.uneven _ _ c.child_at-x.ensures c.child_at-y.ensures).1.0 }
 
 pub returns-then-not-thin : goal.returns-then-not-thin
 returns-then-not-thin c = mend-even _ _ _ _ c.requires.le_level.0 c.requires.uneven _ _ c.child_at-x.ensures c.child_at-y.ensures _ _ c.count_at-cx.ensures c.count_at-cy.ensures _ c.thin.ensures c.if-not-thin.true
@@ -18,7 +18,7 @@ joined_line-line-requires c =
     let e = c.count_at-cx.ensures in
     let d = c.count_at-cy.ensures in
     let f = mend-few _ _ _ _ c.requires.le_level.0 c.requires.uneven _ _ c.child_at-x.ensures c.child_at-y.ensures _ _ c.count_at-cx.ensures c.count_at-cy.ensures _ c.thin.ensures c.if-not-thin.false in
-    record { x_bound = (k.0, (k.1.0, (e, (omega arith, omega arith)))); y_bound = omega arith }
+    record { tree_len = c.requires.tree_len; x_bound = (k.0, (k.1.0, (e, (omega arith, omega arith)))); y_bound = omega arith }
 
 pub overflow_add-cx : goal.overflow_add-cx
 overflow_add-cx c =
@@ -33,6 +33,7 @@ merge-requires c =
     let f = mend-few _ _ _ _ c.requires.le_level.0 c.requires.uneven _ _ c.child_at-x.ensures c.child_at-y.ensures _ _ c.count_at-cx.ensures c.count_at-cy.ensures _ c.thin.ensures c.if-not-thin.false in
     let q = c.requires.le_level in
     record {
+      tree_len = c.requires.tree_len;
       n_bound = (q.1.0, (k.0, (k.1.0, (omega arith, (omega arith, omega arith)))));
       k_value = (omega arith, omega arith);
       joined_line = rw c.range_at-s.ensures at c.joined_line-line.ensures;
@@ -55,6 +56,7 @@ share-requires c =
     let f = mend-few _ _ _ _ c.requires.le_level.0 c.requires.uneven _ _ c.child_at-x.ensures c.child_at-y.ensures _ _ c.count_at-cx.ensures c.count_at-cy.ensures _ c.thin.ensures c.if-not-thin.false in
     let q = c.requires.le_level in
     record {
+      tree_len = c.requires.tree_len;
       n_bound = (q.1.0, (k.0, (k.1.0, omega arith)));
       k_value = (omega arith, (omega arith, omega arith));
       joined_line = rw c.range_at-s.ensures at c.joined_line-line.ensures;

@@ -6,12 +6,12 @@ use Rattle.treeremove.proofs.root.remove_root.Goals as goal
 pub take_node-requires : goal.take_node-requires
 take_node-requires c =
     let p = c.requires in
-    (p.h_value.1, top-loose _ _ _ p.lawful_tree p.h_value.0 p.h_value.1 c.root_at-root.ensures)
+    record { tree_len = p.tree_len; le_level = (p.h_value.1, top-loose _ _ _ p.lawful_tree p.h_value.0 p.h_value.1 c.root_at-root.ensures) }
 
 pub count_at-c-requires : goal.count_at-c-requires
 count_at-c-requires c =
     let p = c.requires in
-    top-number _ _ _ p.lawful_tree p.h_value.0 p.h_value.1 c.root_at-root.ensures
+    record { tree_len = search rules; n_bound = top-number _ _ _ p.lawful_tree p.h_value.0 p.h_value.1 c.root_at-root.ensures }
 
 pub returns-then-c-gt0 : goal.returns-then-c-gt0
 returns-then-c-gt0 c =
@@ -24,7 +24,7 @@ returns-then-c-gt0 c =
 pub drop_root-requires : goal.drop_root-requires
 drop_root-requires c =
     let p = c.requires in
-    top-number _ _ _ p.lawful_tree p.h_value.0 p.h_value.1 c.root_at-root.ensures
+    record { tree_len = search rules; n_bound = top-number _ _ _ p.lawful_tree p.h_value.0 p.h_value.1 c.root_at-root.ensures }
 
 pub returns-then-h-eq1 : goal.returns-then-h-eq1
 returns-then-h-eq1 c =
@@ -37,7 +37,7 @@ returns-then-h-eq1 c =
 pub child_at-first-requires : goal.child_at-first-requires
 child_at-first-requires c =
     let p = c.requires in
-    (top-number _ _ _ p.lawful_tree p.h_value.0 p.h_value.1 c.root_at-root.ensures, omega arith)
+    record { tree_len = search rules; n_bound = (top-number _ _ _ p.lawful_tree p.h_value.0 p.h_value.1 c.root_at-root.ensures, omega arith) }
 
 pub overflow_cast-first : goal.overflow_cast-first
 overflow_cast-first c = let p = c.requires in
@@ -48,7 +48,7 @@ overflow_cast-first c = let p = c.requires in
 pub drop_root-requires-2 : goal.drop_root-requires-2
 drop_root-requires-2 c =
     let p = c.requires in
-    top-number _ _ _ p.lawful_tree p.h_value.0 p.h_value.1 c.root_at-root.ensures
+    record { tree_len = search rules; n_bound = top-number _ _ _ p.lawful_tree p.h_value.0 p.h_value.1 c.root_at-root.ensures }
 
 pub returns : goal.returns
 returns c =
