@@ -121,6 +121,10 @@ module _ (T₀ T T' : Tables) (p p' : TwoUnits) (s r s' : State) (buffer buffer'
         so_far = went_on T₀ T T' p p' r s' buffer' lines lines' until-then turn b ready.lies.held g;
       }
 
+-- what holds before a turn holds of equal units
+pub with-units : (T₀ T : Tables) (p q : TwoUnits) (s : State) (buffer lines : List ℕ) → Turning T₀ T p s buffer lines → q ≡ p → Turning T₀ T q s buffer lines
+with-units T₀ T p q s buffer lines t e = subst (λ (u : TwoUnits). Turning T₀ T u s buffer lines) (sym e) t
+
 -- a line has room where the held ones are kept, and where they are written
 module _ (s : State) (buffer lines : List ℕ) (h : longest_line ≤ length lines) (k : s.held ≤ length lines) where
   fits_by : (w q : Bool) → leb longest_line (length lines - s.held) ≡ q → cond (w && q) s.held 0 + longest_line ≤ length lines

@@ -17,6 +17,7 @@ use Rattle.history.proofs.Published.{called-does, does-called}
 use Rattle.records.specs.Records.{Meaning, malformed}
 use Rattle.records.specs.declared.Request.{Request}
 use Rattle.recordcalls.specs.declared.TwoUnits.{TwoUnits}
+use Rattle.recordcalls.specs.declared.Shown.{Shown}
 use Rattle.recordcalls.specs.Steps.{fresh_units, unit_at, with_unit_at, renewed, RecordTaken, skipped, made, needs_unit, TakenBeside}
 
 pub both-fresh : (u : TlbUnit) → u ≡ fresh_unit → record { first = u; second = u } ≡ fresh_units
@@ -45,6 +46,16 @@ any-unit T T' v u o (OnUnit d) f does w = absurd (true-false true refl f)
 
 same_units : (p : TwoUnits) (n : ℕ) → with_unit_at p n (unit_at p n) ≡ p
 same_units p n = by-test (eqb n 0) (λ t. rw t) (λ f. rw f)
+
+same-unit : (T T' : Tables) (v u : TlbUnit) (o : Outcome) (c : Call) → takes_unit c ≡ false → Does true T v o c T' u → u ≡ v
+unfolding takes_unit
+same-unit T T' v u o (OnTables d) f does = (does-called T v o d T' u does).1
+same-unit T T' v u o (OnUnit d) f does = absurd (true-false true refl f)
+
+-- a record that needs no unit leaves the lent ones as they were, or fresh
+pub left-beside : {T T' : Tables} {p p' : TwoUnits} {m : Meaning} {r : Shown} → RecordTaken T p m r T' p' → needs_unit m ≡ false → p' ≡ renewed r.kind r.outcome p
+left-beside {T} {T'} {p} (skipped {k}) f = sym (not-renewed k (refusal 16) refl p)
+left-beside {T} {T'} {p} (made {k} {n} {c} {o} {u} does) f = rw (same-unit T T' (unit_at p n) u o c f does) (ap (renewed k o) (same_units p n))
 
 -- a call on unit n of p, which is u afterwards
 module _ (T T' : Tables) (m : Meaning) (r : Request) (e : m ≡ Ok r) (p : TwoUnits) (u : TlbUnit) (a o : Outcome) (is : o ≡ a) (does : Does true T (unit_at p r.unit) a r.call T' u) where

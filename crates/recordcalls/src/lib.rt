@@ -3,7 +3,7 @@
 
 mod taking;
 
-pub use crate::taking::{fresh_units, take};
+pub use crate::taking::{fresh_units, needs_unit, take};
 use history::Unit;
 use words::Outcome;
 

@@ -52,6 +52,17 @@ fn renews(kind: u32, answer: Answer) -> bool
     kind == SET_UP_POOL && answer.is_ok()
 }
 
+// Whether a record asks for a call that is lent a unit; a malformed one does not.
+#[tactic(auto, unfolding(history::specs::Lists::takes_unit))]
+pub fn needs_unit(meaning: Meaning) -> bool
+    ensures { result ≡ needs_unit meaning }
+{
+    match meaning {
+        Ok(request) => matches!(request.call, Call::OnUnit(_)),
+        Err(_) => false,
+    }
+}
+
 // Takes a record: a malformed one answers 16 and changes nothing. One that needs no unit does the same whatever the units are: they stay or become fresh.
 pub fn take(
     meaning: Meaning,

@@ -14,7 +14,7 @@ use Rattle.records.specs.Records.{Meaning}
 use Rattle.records.specs.declared.Next.{Next}
 use Rattle.records.specs.declared.Next.TheVariants.{End, Cut, Whole}
 use Rattle.trace.specs.declared.State.{State}
-use Rattle.trace.specs.declared.turns.Turn.{Turn}
+use Rattle.trace.specs.declared.Turn.{Turn}
 use Rattle.recordcalls.specs.declared.TwoUnits.{TwoUnits}
 use Rattle.recordcalls.specs.declared.Shown.{Shown}
 use Rattle.recordcalls.specs.Steps.{RecordTaken}

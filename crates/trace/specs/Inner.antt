@@ -5,7 +5,7 @@ use Rattle.layout.specs.Tables.{Tables}
 use Rattle.records.specs.declared.Next.{Next}
 use Rattle.records.specs.declared.Next.TheVariants.{End, Cut, Whole}
 use Rattle.trace.specs.declared.State.{State}
-use Rattle.trace.specs.declared.turns.Turn.{Turn}
+use Rattle.trace.specs.declared.Turn.{Turn}
 use Rattle.recordcalls.specs.declared.TwoUnits.{TwoUnits}
 use Rattle.recordcalls.specs.declared.Shown.{Shown}
 use Rattle.records.specs.Input.{waiting, standing, next_of, behind}
@@ -23,10 +23,11 @@ pub record Turned (T : Tables) (p : TwoUnits) (s : State) (buffer lines : List �
   pub window : s'.window ≡ behind s.window buffer
   pub rest : waiting s'.window buffer ≡ drop (standing (waiting s.window buffer)) (waiting s.window buffer)
 
--- a turn taken beside the units: whatever they are, they stay or become fresh
-pub record TurnedBeside (T : Tables) (s : State) (buffer lines : List ℕ) (T' : Tables) (s' : State) (lines' : List ℕ) : Type 0 where
+-- a turn taken beside the units: whatever they are, they stay or become fresh, and so did those lent, p, which are p' afterwards
+pub record TurnedBeside (T : Tables) (p : TwoUnits) (s : State) (buffer lines : List ℕ) (T' : Tables) (p' : TwoUnits) (s' : State) (lines' : List ℕ) : Type 0 where
   pub renews : Bool
-  pub turned : (p : TwoUnits) → Turned T p s buffer lines T' (cond renews fresh_units p) s' lines'
+  pub left : p' ≡ cond renews fresh_units p
+  pub turned : (q : TwoUnits) → Turned T q s buffer lines T' (cond renews fresh_units q) s' lines'
 
 -- the window and the held lines lie in their buffers
 pub record Lies (s : State) (buffer lines : List ℕ) : Type 0 where

@@ -11,16 +11,19 @@ ghost use Rattle.recordcalls.specs.Steps.{fresh_units};
 ghost use Rattle.trace.specs.Listing.{Came};
 ghost use Rattle.trace.specs.Inner.{Turned, TurnedBeside, Lies, Ready, stopped, cut_short, line_of, wants_unit};
 
-use crate::State;
-use recordcalls::{Shown, TwoUnits, take};
+use crate::{State, Turn};
+use recordcalls::{Shown, TwoUnits, needs_unit, take};
 use records::{Next, fetch, line, rest};
 use words::answers::{Refused, outcome};
 
-// What is shown of what comes next, if a line is, and whether the run goes on.
-#[derive(Clone, Copy)]
-pub struct Turn {
-    pub shown: Option<Shown>,
-    pub goes: bool,
+// Whether what comes next asks for a call that is lent a unit.
+pub fn wants_unit(next: Next) -> bool
+    ensures { result ≡ wants_unit next }
+{
+    match next {
+        Next::End | Next::Cut => false,
+        Next::Whole(meaning) => needs_unit(meaning),
+    }
 }
 
 // What is shown of a record that the end cuts short.
@@ -51,7 +54,7 @@ fn answer(
     ranges: &mut [u32],
 ) -> Turn
     ensures came { (number : ℕ) → Came (tables control.old frames.old pages.old ranges.old) units.old number next (line_of number result.shown) (tables control.new frames.new pages.new ranges.new) units.new result.goes }
-    ensures beside { wants_unit next ≡ false → (renews : Bool) × ((p : TwoUnits) (number : ℕ) → Came (tables control.old frames.old pages.old ranges.old) p number next (line_of number result.shown) (tables control.new frames.new pages.new ranges.new) (cond renews fresh_units p) result.goes) }
+    ensures beside { wants_unit next ≡ false → (renews : Bool) × ((units.new ≡ cond renews fresh_units units.old) × ((p : TwoUnits) (number : ℕ) → Came (tables control.old frames.old pages.old ranges.old) p number next (line_of number result.shown) (tables control.new frames.new pages.new ranges.new) (cond renews fresh_units p) result.goes)) }
 {
     match next {
         Next::End => stop(None),
@@ -104,7 +107,7 @@ pub fn step(
 ) -> State
     requires { Ready s buffer.now lines.old }
     ensures turned { Turned (tables control.old frames.old pages.old ranges.old) units.old s buffer.now lines.old (tables control.new frames.new pages.new ranges.new) units.new result lines.new }
-    ensures beside { wants_unit (next_of (waiting s.window buffer.now)) ≡ false → TurnedBeside (tables control.old frames.old pages.old ranges.old) s buffer.now lines.old (tables control.new frames.new pages.new ranges.new) result lines.new }
+    ensures beside { wants_unit (next_of (waiting s.window buffer.now)) ≡ false → TurnedBeside (tables control.old frames.old pages.old ranges.old) units.old s buffer.now lines.old (tables control.new frames.new pages.new ranges.new) units.new result lines.new }
     ensures lies { Lies result buffer.now lines.old }
 {
     let next = fetch(buffer, s.window);

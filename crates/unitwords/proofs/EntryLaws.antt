@@ -2,7 +2,7 @@
 use mathlib.Core.Path.{◌≡◌, refl, ap, ◌∙◌, sym}
 use mathlib.Core.List.{List, [], ◌∷◌, ◌++◌, append_assoc, append-nil}
 use Prim.Native.Nat.{ℕ, zero, suc, ◌+◌, ◌*◌, ◌<◌, ◌≤◌}
-use Rattle.std.proofs.Math.Nat.{mul-le-mul_left}
+use Rattle.std.proofs.Math.Nat.{mul-le-mul_left, mul-le-mul_right}
 use native.Mathlib.Nat.{zero-add, add-zero, mul-zero, mul-suc}
 use native.Mathlib.Omega.{arith}
 use lib.ListN.{length, get_or, set, take, drop, length-append, drop_of_length-le, get_or-append}
@@ -49,11 +49,16 @@ module _ {A : Type 0} (f : ℕ → A) (l : List A) where
   unfolding tabled_to
   all-tabled n k e h = rw (e, none_left l n (omega arith)) (append-nil (tabulate n f))
 
--- entry k of n, of w words each, ends where all of them do or before
-pub entry-ends : (w k n a m : ℕ) → k < n → a + w * n ≤ m → a + w * k + w ≤ m
-entry-ends w k n a m h fits =
+-- entry k of n, of w words each, ends where all of them do or before, also where entries begin fewer words apart
+pub entry-ends : (v w k n a m : ℕ) → v ≤ w → k < n → a + w * n ≤ m → a + v * k + w ≤ m
+entry-ends v w k n a m apart h fits =
+    let less : v * k ≤ w * k = mul-le-mul_right k apart in
     let more : w * suc k ≤ w * n = mul-le-mul_left w h in
     omega (arith, mul-suc w k)
+
+-- what is read where entry k begins, v words apart, is read w words apart
+pub entry-begins : {A : Type 0} (f : ℕ → A) (x : A) (v w k a : ℕ) → v ≡ w → x ≡ f (a + v * k) → x ≡ f (a + w * k)
+entry-begins f x v w k a apart is = is ∙ ap (λ (n : ℕ). f (a + n * k)) apart
 
 -- a list over which the words of the first n entries are written, m words each
 unfoldable pub written_to : {A : Type 0} → (A → List ℕ) → ℕ → ℕ → List A → List ℕ → List ℕ

@@ -1,7 +1,8 @@
 use borrow.Author.Tests.{not-true, not-false}
 use mathlib.Core.Path.{refl}
 use native.Mathlib.Omega.{arith}
-use Rattle.coretrace.proofs.RunLaws.{starts, runs-out, stops-there, turned}
+use borrow.Author.Rules.{rules}
+use Rattle.coretrace.proofs.RunLaws.{starts, runs-out, stops-there, turned, with-units}
 use Rattle.coretrace.proofs.run.Goals as goal
 
 pub loop-s-init : goal.loop-s-init
@@ -21,7 +22,7 @@ pub loop-s-preserved : goal.loop-s-preserved
 loop-s-preserved g c = let l = c.loop-s in
     let ah = c.ahead-s in
     let st = c.step-s in
-    (omega (arith, l, st), (omega (arith, l, st), (omega (arith, l, st), (omega (arith, l, st), (omega (arith, l, st), turned _ _ _ _ _ _ _ _ _ _ _ _ l.invariant.1.1.1.1.1 ah.ensures.ready ah.ensures.number_value ah.ensures.held_value st.ensures.turned st.ensures.lies (omega (arith, st)) (not-false _ c.if-not-s.false))))))
+    (omega (arith, l, st), (omega (arith, l, st), (omega (arith, l, st), (omega (arith, l, st), (omega (arith, l, st), with-units _ _ _ _ _ _ _ (turned _ _ _ _ _ _ _ _ _ _ _ _ l.invariant.1.1.1.1.1 ah.ensures.ready ah.ensures.number_value ah.ensures.held_value st.ensures.turned st.ensures.lies (omega (arith, st)) (not-false _ c.if-not-s.false)) (search rules))))))
 
 pub returns-after-loop-s : goal.returns-after-loop-s
 returns-after-loop-s g c = let l = c.loop-s in
