@@ -1,13 +1,15 @@
 -- Laws of the control buffer: its fields after each change, and the changes that keep it lawful.
 use mathlib.Core.Path.{◌≡◌, refl, ap, ◌∙◌, sym}
 use mathlib.Core.Bool.{Bool, true, false, ◌&&◌, and_assoc}
-use mathlib.Core.List.{List}
+use mathlib.Core.List.{List, ◌++◌}
 use Prim.Native.Nat.{ℕ, zero, suc, ◌+◌, ◌-◌, ◌%◌, ◌^◌, ◌≤◌, ◌<◌, zero-le}
 use native.Mathlib.Nat.{mod-lt, mod-eq_of_lt, add-zero}
 use native.Mathlib.Decide.{dec_le, ℕ_discrete}
 use native.Mathlib.Omega.{arith}
 use lib.Dec.{leb, eqb}
-use lib.ListN.{length, get_or, set, length-set, length-replicate, get_or-replicate}
+use lib.ListN.{length, get_or, take, drop, replicate, set, length-set, length-replicate, get_or-replicate}
+use Rattle.std.proofs.lemmas.List.{append-nil, length-take-le}
+use Rattle.std.proofs.Math.ListN.{drop_of_length-le}
 use lib.Seq.{get_or-set_same, get_or-set_other, ext_get_or}
 use borrow.Author.Tests.{leb-true, le-leb, lt-leb, eqb-true}
 use Rattle.std.specs.List.{list_all, range_with_len}
@@ -192,6 +194,10 @@ module _ (c : List ℕ) (s f n : ℕ) where
     unfolding appended
     appended-count = record-count _ _ s f n (removals-length c _ ∙ len) (mod-lt (removals c + 1) (omega arith))
 
+-- zeros in the place of the first words, which are all
+all-front : (n : ℕ) (xs ys : List ℕ) → length xs ≡ n → ys ≡ replicate (length (take n xs)) 0 → ys ++ drop n xs ≡ replicate n 0
+all-front n xs ys len e = rw (e, length-take-le n xs (omega arith), drop_of_length-le xs {i = n} (omega arith), append-nil {A = ℕ} (replicate n 0)) refl
+
 -- the fields of a pool just set up
 module _ (F : ℕ) where
   pub fresh-length : length (fresh_control F) ≡ control_buffer_words
@@ -232,6 +238,10 @@ module _ (F : ℕ) where
       by-dec (ℕ_discrete i 0)
       (λ z. rw z (get_or-set_same c 0 F 0 (omega arith)))
       (λ nz. get_or-set_other c 0 i F 0 nz ∙ zeros i lt ∙ sym (fresh-word i (omega arith) lt)))
+
+  -- the same, where all its words are written as its first
+  pub fresh-front : (xs ys : List ℕ) → length xs ≡ control_buffer_words → ys ≡ replicate (length (take control_buffer_words xs)) 0 → set (ys ++ drop control_buffer_words xs) 0 F ≡ fresh_control F
+  fresh-front xs ys len e = rw (all-front control_buffer_words xs ys len e) (fresh-is (replicate control_buffer_words 0) (λ i h. get_or-replicate control_buffer_words i 0 0 h) (length-replicate {A = ℕ} control_buffer_words 0))
 
 -- which places are used
 

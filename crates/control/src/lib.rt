@@ -198,6 +198,6 @@ pub fn fresh_control(control: &mut [u32], pool: u32)
     requires { length control.old ≡ control_buffer_words }
     ensures { control.new ≡ fresh_control pool }
 {
-    control.fill(0);
+    control[..WORDS].fill(0);
     control[POOL] = pool;
 }

@@ -90,7 +90,7 @@ pub fn list_ranges(part: &mut [u32], ranges: &mut [u32]) -> usize
         part[i as usize] = bit_word(range_bit(w), w);
         let along = over(part, Page(i + 1), w);
         n = goes_on(n, v, w) + along.mapped;
-        v = w + along.mapped;
+        v = along.last;
         i += 1 + along.pages;
     }
     let end = RunEnd {

@@ -41,12 +41,12 @@ fn onward_from(part: &[u32], b: Page, v: u32) -> u32
     counts_beside(part, from, v + 1, part, from, v + 1, most as usize) as u32
 }
 
-// A stretch of pages that a walk passes at once, and how many of them are mapped, all or none.
-// The words of mapped ones count up from the word before, so that the last of them is that word and their number.
+// A stretch of pages that a walk passes at once, how many of them are mapped, all or none, and the word before its end.
 #[derive(Clone, Copy)]
 pub struct Stretch {
     pub pages: u32,
     pub mapped: u32,
+    pub last: u32,
 }
 
 // How many pages from page b on are unmapped.
@@ -64,21 +64,28 @@ fn empty_from(part: &[u32], b: Page) -> u32
 pub fn over(part: &[u32], b: Page, w: u32) -> Stretch
     requires part_len { length part.now ≡ pages_in_space }
     requires b_le_pages_in_space { b.0 ≤ pages_in_space }
-    ensures { Along part.now b.0 w result.pages result.mapped }
+    ensures along { Along part.now b.0 w result.pages result.mapped }
+    ensures last_value { result.last ≡ w + result.mapped }
 {
     if w == 0 {
         let pages = empty_from(part, b);
-        return Stretch { pages, mapped: 0 };
+        return Stretch {
+            pages,
+            mapped: 0,
+            last: 0,
+        };
     }
     if !mapped(w) {
         return Stretch {
             pages: 0,
             mapped: 0,
+            last: w,
         };
     }
     let pages = onward_from(part, b, w);
     Stretch {
         pages,
         mapped: pages,
+        last: w + pages,
     }
 }

@@ -58,9 +58,10 @@ pub fn map_pages(
     ensures rewritten { Rewritten space (map_words (space_pages pages.old space) first.0 n rights (frames_for pool (free_in frames.old) (wish_before (space_pages pages.old space) first.0) n)) pages.old ranges.old pages.new ranges.new }
 {
     let owner = 1 + PAGES * space + first.0;
+    let words = words_of::<PAGE_WORDS>(space);
     map_space(
         frames,
-        &mut pages[words_of::<PAGE_WORDS>(space)],
+        &mut pages[words],
         &mut ranges[words_of::<RANGE_WORDS>(space)],
         pool,
         owner,

@@ -90,6 +90,7 @@ impl Space<'_> {
     fn over_fitting(&self, b: Page, w: u32) -> Stretch
         requires { b.0 ≤ pages_in_space }
         ensures along { Along self.now.part.now b.0 w result.pages result.mapped }
+        ensures last_value { result.last ≡ w + result.mapped }
         ensures named { Named self.now.frames.now self.now.pool (frame_in w) (self.now.first + b.0) result.mapped }
     {
         if !mapped(w) {
@@ -99,6 +100,7 @@ impl Space<'_> {
         Stretch {
             pages,
             mapped: pages,
+            last: w + pages,
         }
     }
 }

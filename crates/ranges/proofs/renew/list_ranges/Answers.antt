@@ -18,18 +18,18 @@ goes_on-requires c = omega (arith, run-le _ _ _ _ _ _ c.loop-i.invariant.walked)
 
 pub overflow_add-n : goal.overflow_add-n
 overflow_add-n c = let st = renew-step _ _ _ _ _ _ _ c.loop-i.invariant _ _ _ _ _ _ _ _ (omega arith) refl (omega arith) c.joined.ensures c.range_bit.ensures c.bit_word.ensures c.goes_on.ensures c.end_run-at.ensures in
-    let r = along-room _ _ _ _ _ (omega arith) c.over-along.ensures in
+    let r = along-room _ _ _ _ _ (omega arith) c.over-along.ensures.along in
     omega (arith, r.0, r.1, run-le _ _ _ _ _ _ st.walked)
 
 pub overflow_add-i-in-loop-i : goal.overflow_add-i-in-loop-i
-overflow_add-i-in-loop-i c = let r = along-room _ _ _ _ _ (omega arith) c.over-along.ensures in omega (arith, r.0)
+overflow_add-i-in-loop-i c = let r = along-room _ _ _ _ _ (omega arith) c.over-along.ensures.along in omega (arith, r.0)
 
 pub overflow_add-i-in-loop-i-2 : goal.overflow_add-i-in-loop-i-2
-overflow_add-i-in-loop-i-2 c = let r = along-room _ _ _ _ _ (omega arith) c.over-along.ensures in omega (arith, r.0)
+overflow_add-i-in-loop-i-2 c = let r = along-room _ _ _ _ _ (omega arith) c.over-along.ensures.along in omega (arith, r.0)
 
 pub loop-i-preserved : goal.loop-i-preserved
 loop-i-preserved c = let st = renew-step _ _ _ _ _ _ _ c.loop-i.invariant _ _ _ _ _ _ _ _ (omega arith) refl (omega arith) c.joined.ensures c.range_bit.ensures c.bit_word.ensures c.goes_on.ensures c.end_run-at.ensures in
-    renew-along _ _ _ _ _ _ _ _ _ _ _ st c.over-along.ensures (omega arith) refl
+    renew-along _ _ _ _ _ _ _ _ _ _ _ st c.over-along.ensures.along (omega arith) c.over-along.ensures.last_value
 
 pub invariant_of-end-2 : goal.invariant_of-end-2
 invariant_of-end-2 c = let e : c.loop-i.i ≡ 1024 = omega (arith, c.loop-i.invariant.walked.inside) in
