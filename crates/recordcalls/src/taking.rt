@@ -53,7 +53,6 @@ fn renews(kind: u32, answer: Answer) -> bool
 }
 
 // Whether a record asks for a call that is lent a unit; a malformed one does not.
-#[tactic(auto, unfolding(history::specs::Lists::takes_unit))]
 pub fn needs_unit(meaning: Meaning) -> bool
     ensures { result ≡ needs_unit meaning }
 {
