@@ -1,10 +1,15 @@
-// The three tables that are written: a line for each pool and a cell for each call, then a line for each state of the page tables, then a line for each span that is mapped and previewed. Where a write fails, the rest of its text is lost.
+// The three tables that are written: a line for each pool and a cell for each call, then a line for each state of the page tables, then a line for each span that is mapped and previewed. Each piece of a cell is a write of its own: where it fails, the rest of the piece is lost, and no other.
 use crate::pool_calls::Request;
 use crate::pools::Filling;
 use words::Outcome;
 
 fn text<R: Print>(rt: &R, s: &str) {
     let _ = rt.print(s);
+}
+
+// Between two cells of a line.
+fn bar<R: Print>(rt: &R) {
+    text(rt, " | ");
 }
 
 pub fn pool_heading<R: Print>(rt: &R) {
@@ -16,9 +21,11 @@ pub fn pool_heading<R: Print>(rt: &R) {
 
 // The first three cells of a line of the pool: the pool's size, how it is filled, and how many frames are asked for.
 pub fn begin_pool<R: Print>(rt: &R, filling: Filling, r: Request) {
-    let pool = r.pool;
-    let n = r.n;
-    let _ = print!(rt; "{pool} | {filling} | {n}");
+    let _ = rt.print(r.pool);
+    bar(rt);
+    let _ = rt.print(filling);
+    bar(rt);
+    let _ = rt.print(r.n);
 }
 
 pub fn table_heading<R: Print>(rt: &R) {
@@ -39,7 +46,11 @@ pub fn preview_heading<R: Print>(rt: &R) {
 
 // The first three cells of a line of a map and its preview: the pool's size, how many of its frames were broken up, and how many pages are asked for.
 pub fn begin_span<R: Print>(rt: &R, pool: u32, held: u32, n: u32) {
-    let _ = print!(rt; "{pool} | {held} | {n}");
+    let _ = rt.print(pool);
+    bar(rt);
+    let _ = rt.print(held);
+    bar(rt);
+    let _ = rt.print(n);
 }
 
 pub fn end<R: Print>(rt: &R) {
@@ -48,20 +59,25 @@ pub fn end<R: Print>(rt: &R) {
 
 // The next cell: what a call answers, its first value or the number of its refusal.
 pub fn answer<R: Print>(rt: &R, o: Outcome) {
-    let number = o.number;
-    let first = o.first;
-    let _ = if number == 0 {
-        print!(rt; " | {first}")
+    bar(rt);
+    if o.number == 0 {
+        let _ = rt.print(o.first);
     } else {
-        print!(rt; " | refused {number}")
-    };
+        text(rt, "refused ");
+        let _ = rt.print(o.number);
+    }
 }
 
 // The next cell: a number of hundredths, with two digits after the point.
 pub fn hundredths<R: Print>(rt: &R, n: u64) {
-    let whole = n / 100;
+    bar(rt);
+    let _ = rt.print(n / 100);
+    text(rt, ".");
     let part = n % 100;
-    let _ = print!(rt; " | {whole}.{part:02}");
+    if part < 10 {
+        text(rt, "0");
+    }
+    let _ = rt.print(part);
 }
 
 // Stays: no `parse`, which would refuse what is no digit; here it is passed over.
